@@ -29,7 +29,7 @@ use Rattle.handler_post.specs.Ways.{KeptWay as Way}
 use Rattle.handler_post.specs.Ways.{IsReady, IsSameWay, MadeNone}
 use Rattle.handler_post.specs.Sends.{Sending, Erasing, Sends, Erases}
 use Rattle.dash_hall.specs.Slots.{GivesBackAll}
-use Rattle.dash_hall.specs.Growth.{own, GoesOn, TurnsOnce, Makes, WayGoesOn, WayTurnsOnce, WayMakes}
+use Rattle.dash_hall.specs.Growth.{own, GoesOn, TurnsOnce, Makes, WayCalled, no_token}
 use Rattle.dash_hall.specs.Requests.{IfSent, IfErased}
 use Rattle.dash_hall.proofs.Slots.{gives_back_none, in_vain_gives_back, returned_gives_back, same_messages, one_put, some_gone, one_gone}
 use Rattle.dash_hall.proofs.Growing.{Keeps, one_turn, turns_none, made_none, enters, leaves, makes_none}
@@ -144,10 +144,6 @@ quits_still safe now p q (x, y, t, u) = made_none p q x y t u.1
 pub same_home : (v w : Way) → IsReady v → IsReady w → IsSameWay v w → w.pass.now.home ≡ v.pass.now.home
 same_home v w r r' s = r'.pass ∙ (s.pool ∙ sym r.pass)
 
--- what a maker of the call answers
-abbrev pub Did : {A E : Type 0} → Way → Way → Call → Result A E → Type 0
-Did v w c res = WayGoesOn v w × OnOk res (WayMakes v w c []) × OnErr res (own w.poster.now ≡ own v.poster.now) × WayTurnsOnce v w × OnErr res (MadeNone v.poster.now w.poster.now)
-
 answered_sent : {A E : Type 0} (P Q : Type 0) (r : Sent) (res : Result A E) → IfSent r P Q → OnOk res (IfSent r ⊥ (Unit {0})) → OnErr res (IfSent r (Unit {0}) ⊥) → OnOk res Q × OnErr res P
 answered_sent P Q (Took n w) (Ok x) done ok err = (done, tt)
 answered_sent P Q (Took n w) (Err x) done ok err = absurd err
@@ -162,19 +158,39 @@ answered_erased P Q (Gone n) (Err x) done ok err = absurd err
 answered_erased P Q NoSpace (Ok x) done ok err = absurd ok
 answered_erased P Q NoSpace (Err x) done ok err = (tt, done)
 
-pub by_send : {A E : Type 0} (v w : Way) (m : PostData) (r : Sent) (res : Result A E) → IsReady v → IsReady w → IsSameWay v w → Sends m v w r → OnOk res (IfSent r ⊥ (Unit {0})) → OnErr res (IfSent r (Unit {0}) ⊥) → Did v w (plain (Post m)) res
+pub by_send : {A E : Type 0} (v w : Way) (m : PostData) (r : Sent) (res : Result A E) → IsReady v → IsReady w → IsSameWay v w → Sends m v w r → OnOk res (IfSent r ⊥ (Unit {0})) → OnErr res (IfSent r (Unit {0}) ⊥) → WayCalled v w (plain (Post m)) no_token res
 by_send v w m r res ready ready' same sent ok err =
     let done = sends v.pool.now m v.poster.now w.poster.now v.pass.now w.pass.now r (same_home v w ready ready' same) sent in
-    let answers = answered_sent (own w.poster.now ≡ own v.poster.now) (WayMakes v w (plain (Post m)) []) r res done.1 ok err in
+    let answers = answered_sent (own w.poster.now ≡ own v.poster.now) (Makes v.poster.now w.poster.now (plain (Post m)) []) r res done.1 ok err in
     let still = answered_sent (MadeNone v.poster.now w.poster.now) (Unit {0}) r res (sent_still v.pool.now m v.poster.now w.poster.now v.pass.now w.pass.now r sent) ok err in
-    (done.0, answers.0, answers.1, sent_once v.pool.now m v.poster.now w.poster.now v.pass.now w.pass.now r sent, still.1)
+    record {
+      ready = ready';
+      same = same;
+      by = record {
+        on = done.0;
+        once = sent_once v.pool.now m v.poster.now w.poster.now v.pass.now w.pass.now r sent;
+        made = answers.0;
+        none = answers.1;
+        still = still.1;
+      };
+    }
 
-pub by_erase : {A E : Type 0} (v w : Way) (f : Filter) (r : Erased) (res : Result A E) → IsReady v → IsReady w → IsSameWay v w → Erases f v w r → OnOk res (IfErased r ⊥ (Unit {0})) → OnErr res (IfErased r (Unit {0}) ⊥) → Did v w (Remove f) res
+pub by_erase : {A E : Type 0} (v w : Way) (f : Filter) (r : Erased) (res : Result A E) → IsReady v → IsReady w → IsSameWay v w → Erases f v w r → OnOk res (IfErased r ⊥ (Unit {0})) → OnErr res (IfErased r (Unit {0}) ⊥) → WayCalled v w (Remove f) no_token res
 by_erase v w f r res ready ready' same erased ok err =
     let done = erases f v.poster.now w.poster.now v.pass.now w.pass.now r (same_home v w ready ready' same) erased in
-    let answers = answered_erased (own w.poster.now ≡ own v.poster.now) (WayMakes v w (Remove f) []) r res done.1 ok err in
+    let answers = answered_erased (own w.poster.now ≡ own v.poster.now) (Makes v.poster.now w.poster.now (Remove f) []) r res done.1 ok err in
     let still = answered_erased (MadeNone v.poster.now w.poster.now) (Unit {0}) r res (erased_still f v.poster.now w.poster.now v.pass.now w.pass.now r erased) ok err in
-    (done.0, answers.0, answers.1, erased_once f v.poster.now w.poster.now v.pass.now w.pass.now r erased, still.1)
+    record {
+      ready = ready';
+      same = same;
+      by = record {
+        on = done.0;
+        once = erased_once f v.poster.now w.poster.now v.pass.now w.pass.now r erased;
+        made = answers.0;
+        none = answers.1;
+        still = still.1;
+      };
+    }
 
 -- obtaining a message, and recycling one, bring no less back
 pub answers_back : {V : Type 0} (home : TableId) (a b : Tally) (r : Obtained V) → Answers home a b r → a.back ≤ b.back

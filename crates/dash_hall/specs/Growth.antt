@@ -1,5 +1,5 @@
 -- What a sender's calls do to its poster and its pass.
-use Rattle.std.specs.Prelude.{◌≡◌, ◌≢◌, ◌+◌, ◌≤◌, ℕ, Bool, List, [], ◌∷◌, ◌++◌, All}
+use Rattle.std.specs.Prelude.{◌≡◌, ◌≢◌, ◌+◌, ◌≤◌, ℕ, Bool, List, [], ◌∷◌, ◌++◌, All, Result, IfOk, OnErr}
 use Rattle.atomic_table.specs.Seated.{TableId}
 use Rattle.loop_model.specs.declared.call.Call.{Call}
 use Rattle.loop_model.specs.declared.entry.Entry.{Entry}
@@ -12,7 +12,7 @@ use Rattle.handler_post.specs.Supply.{BringsBack}
 use Rattle.looper_run.specs.Holding.{Sender}
 use Rattle.looper_run.specs.Acts.{IsNoLookOf}
 use Rattle.run_model.specs.Asks.{plain, token_in, entries_by}
-use Rattle.handler_post.specs.Ways.{KeptWay as Way}
+use Rattle.handler_post.specs.Ways.{KeptWay as Way, IsReady, IsSameWay, MadeNone}
 use Rattle.dash_hall.specs.Slots.{LosesNoSlot}
 
 -- the entries that a poster has made
@@ -41,13 +41,6 @@ pub record GoesOn (before after : Sender) (pass pass' : Tally) : Type 0 where
 abbrev pub TurnsOnce : Sender → Sender → Type 0
 TurnsOnce before after = after.view.turns ≤ before.view.turns + 1
 
--- both of the poster and the pass of a way
-abbrev pub WayGoesOn : Way → Way → Type 0
-WayGoesOn before after = GoesOn before.poster.now after.poster.now before.pass.now after.pass.now
-
-abbrev pub WayTurnsOnce : Way → Way → Type 0
-WayTurnsOnce before after = TurnsOnce before.poster.now after.poster.now
-
 -- the sender made one entry more, which makes this call and is answered these tokens
 pub record Makes (before after : Sender) (call : Call) (tokens : List ℕ) : Type 0 where
   pub entry : Entry
@@ -55,9 +48,27 @@ pub record Makes (before after : Sender) (call : Call) (tokens : List ℕ) : Typ
   pub makes : plain entry.call ≡ call
   pub answered : token_in entry.reply ≡ tokens
 
--- the same of the poster of a way
-abbrev pub WayMakes : Way → Way → Call → List ℕ → Type 0
-WayMakes before after call tokens = Makes before.poster.now after.poster.now call tokens
+-- the tokens of a call that is answered none
+abbrev pub no_token : {A : Type 0} → A → List ℕ
+no_token answer = []
+
+-- the token of a call that is answered one
+abbrev pub one_token : ℕ → List ℕ
+one_token token = token ∷ []
+
+-- by at most one turn the sender made this call, with the tokens of the answer; at an error it made no entry
+pub record Called {A E : Type 0} (before after : Sender) (pass pass' : Tally) (call : Call) (tokens : A → List ℕ) (result : Result A E) : Type 0 where
+  pub on : GoesOn before after pass pass'
+  pub once : TurnsOnce before after
+  pub made : IfOk result (λ answer. Makes before after call (tokens answer))
+  pub none : OnErr result (own after ≡ own before)
+  pub still : OnErr result (MadeNone before after)
+
+-- the same by a way, which stays the same and is ready again
+pub record WayCalled {A E : Type 0} (before after : Way) (call : Call) (tokens : A → List ℕ) (result : Result A E) : Type 0 where
+  pub ready : IsReady after
+  pub same : IsSameWay before after
+  pub by : Called before.poster.now after.poster.now before.pass.now after.pass.now call tokens result
 
 -- one turn that posted a barrier of this token at this moment
 abbrev pub BarsOf : Sender → Sender → ℕ → ℕ → Type 0

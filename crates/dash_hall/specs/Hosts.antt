@@ -95,6 +95,11 @@ IsHostNow h = IsHost (origin_now h) h.poster.now h.pass.now
 abbrev pub IsSameHost : {R U : Type 0} → Host R U → Host R U → Type 0
 IsSameHost before after = origin_now after ≡ origin_now before
 
+-- the same host, whose poster and pass have gone on
+pub record StaysHost {R U : Type 0} (before after : Host R U) : Type 0 where
+  pub ready : IsHostNow after
+  pub origin : IsSameHost before after
+
 -- all calls that the host's poster has made, as a choreographer is told of them
 abbrev pub sends_of : {R U : Type 0} → Host R U → List Sending
 sends_of h = sends_by h.handler.id h.poster.now

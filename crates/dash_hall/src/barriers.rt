@@ -1,8 +1,8 @@
 //! The calls of a sender that go by no handler: barriers and quits.
-ghost use Rattle.std.specs.Prelude.{◌≡◌, [], ◌∷◌, IfOk, OnOk, OnErr};
+ghost use Rattle.std.specs.Prelude.{IfOk, OnOk, OnErr};
 ghost use Rattle.loop_model.specs.declared.call.Call.TheVariants.{Barrier, Unbarrier, Quit};
-ghost use Rattle.handler_post.specs.Ways.{IsReady, IsSameWay, MadeNone};
-ghost use Rattle.dash_hall.specs.Growth.{own, WayGoesOn, WayTurnsOnce, WayMakes, BarsOf, WayQuits, WayQuitsNot};
+ghost use Rattle.handler_post.specs.Ways.{IsReady};
+ghost use Rattle.dash_hall.specs.Growth.{WayCalled, no_token, one_token, BarsOf, WayQuits, WayQuitsNot};
 
 use handler_post::{Way, recycle_all};
 use loop_model::NoMemory;
@@ -19,14 +19,8 @@ pub(crate) fn post_barrier<R: Wait>(
     now: u64,
 ) -> Result<u64, NoMemory>
     requires { IsReady way.old }
-    ensures ready { IsReady way.new }
-    ensures same { IsSameWay way.old way.new }
-    ensures on { WayGoesOn way.old way.new }
-    ensures once { WayTurnsOnce way.old way.new }
-    ensures made { IfOk result (λ token. WayMakes way.old way.new (Barrier 0) (token ∷ [])) }
+    ensures called { WayCalled way.old way.new (Barrier 0) one_token result }
     ensures turn { IfOk result (λ token. BarsOf way.old.poster.now way.new.poster.now now token) }
-    ensures none { OnErr result (own way.new.poster.now ≡ own way.old.poster.now) }
-    ensures still { OnErr result (MadeNone way.old.poster.now way.new.poster.now) }
 {
     let node = match way.pool.obtain(alloc, way.pass) {
         Obtained::Pooled(node) => node,
@@ -45,13 +39,7 @@ pub(crate) fn post_barrier<R: Wait>(
 /// Removes the barrier of the token, and recycles it. Where there is none, the history says so.
 pub(crate) fn remove_barrier<R: Wait>(rt: &R, way: &mut Way, token: u64) -> Result<(), NoMemory>
     requires { IsReady way.old }
-    ensures ready { IsReady way.new }
-    ensures same { IsSameWay way.old way.new }
-    ensures on { WayGoesOn way.old way.new }
-    ensures once { WayTurnsOnce way.old way.new }
-    ensures made { OnOk result (WayMakes way.old way.new (Unbarrier token) []) }
-    ensures none { OnErr result (own way.new.poster.now ≡ own way.old.poster.now) }
-    ensures still { OnErr result (MadeNone way.old.poster.now way.new.poster.now) }
+    ensures called { WayCalled way.old way.new (Unbarrier token) no_token result }
 {
     match way.poster.remove_barrier(rt, way.queue, token) {
         BarrierGone::Unbarriered { node, .. } => {
@@ -68,14 +56,9 @@ pub(crate) fn remove_barrier<R: Wait>(rt: &R, way: &mut Way, token: u64) -> Resu
 /// and `quitSafely` of AOSP's `Looper`.
 pub fn quit<R: Wait>(rt: &R, way: &mut Way, safe: bool, now: u64) -> Result<(), NoMemory>
     requires { IsReady way.old }
-    ensures ready { IsReady way.new }
-    ensures same { IsSameWay way.old way.new }
-    ensures on { WayGoesOn way.old way.new }
-    ensures once { WayTurnsOnce way.old way.new }
-    ensures made { OnOk result (WayMakes way.old way.new (Quit safe 0) []) }
+    ensures called { WayCalled way.old way.new (Quit safe 0) no_token result }
     ensures quits { OnOk result (WayQuits way.old way.new safe now) }
     ensures refused { OnErr result (WayQuitsNot way.old way.new safe now) }
-    ensures none { OnErr result (own way.new.poster.now ≡ own way.old.poster.now) }
 {
     match way.poster.quit(rt, way.queue, safe, now) {
         Quitting::Done(left) => {

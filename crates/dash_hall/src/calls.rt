@@ -1,8 +1,8 @@
 //! One call of a sender on a queue.
 ghost use Rattle.std.specs.Prelude.{◌≡◌, is_some, IfOk, OnErr};
-ghost use Rattle.handler_post.specs.Ways.{IsReady, IsSameWay, MadeNone};
+ghost use Rattle.handler_post.specs.Ways.{IsReady};
 ghost use Rattle.shared_queue.specs.Known.{IsOf};
-ghost use Rattle.dash_hall.specs.Growth.{own, GoesOn, TurnsOnce, Makes, WayGoesOn, WayTurnsOnce, WayMakes};
+ghost use Rattle.dash_hall.specs.Growth.{Called, WayCalled};
 ghost use Rattle.dash_hall.specs.Requests.{call_made, tokens_of, posts_barrier, IsAtItsMoment, IsRefusedQuit};
 
 use crate::barriers::{post_barrier, quit, remove_barrier};
@@ -35,13 +35,7 @@ pub(crate) fn perform<R: Wait>(
     call: QueueCall,
 ) -> Result<Option<u64>, NoMemory>
     requires { IsReady way.old }
-    ensures ready { IsReady way.new }
-    ensures same { IsSameWay way.old way.new }
-    ensures on { WayGoesOn way.old way.new }
-    ensures once { WayTurnsOnce way.old way.new }
-    ensures made { IfOk result (λ token. WayMakes way.old way.new (call_made call) (tokens_of token)) }
-    ensures none { OnErr result (own way.new.poster.now ≡ own way.old.poster.now) }
-    ensures still { OnErr result (MadeNone way.old.poster.now way.new.poster.now) }
+    ensures called { WayCalled way.old way.new (call_made call) tokens_of result }
     ensures refused { OnErr result (IsRefusedQuit call way.old.poster.now way.new.poster.now) }
     ensures token { IfOk result (λ token. is_some token ≡ posts_barrier call) }
     ensures moment { IfOk result (λ token. IsAtItsMoment call token way.old.poster.now way.new.poster.now) }
@@ -80,11 +74,7 @@ pub fn perform_by<R: Wait>(
     requires queue { IsOf poster.old queue.now }
     requires pass { pass.old.home ≡ pool.now }
     requires home { queue.now.constants.home ≡ pool.now }
-    ensures on { GoesOn poster.old poster.new pass.old pass.new }
-    ensures once { TurnsOnce poster.old poster.new }
-    ensures made { IfOk result (λ token. Makes poster.old poster.new (call_made call) (tokens_of token)) }
-    ensures none { OnErr result (own poster.new ≡ own poster.old) }
-    ensures still { OnErr result (MadeNone poster.old poster.new) }
+    ensures called { Called poster.old poster.new pass.old pass.new (call_made call) tokens_of result }
     ensures refused { OnErr result (IsRefusedQuit call poster.old poster.new) }
     ensures token { IfOk result (λ token. is_some token ≡ posts_barrier call) }
     ensures moment { IfOk result (λ token. IsAtItsMoment call token poster.old poster.new) }

@@ -1,8 +1,8 @@
 //! The handlers of a script, and the calls that they make.
 ghost use Rattle.std.specs.Prelude.{◌≡◌, ◌<◌, ◌+◌, true, [], OnOk, OnErr};
 ghost use Rattle.run_model.specs.Senders.{looper_of as the_looper_of, gauge_handler as the_gauge_handler, handler_line};
-ghost use Rattle.handler_post.specs.Ways.{IsReady, IsSameWay, MadeNone};
-ghost use Rattle.dash_hall.specs.Growth.{own, WayGoesOn, WayTurnsOnce, WayMakes};
+ghost use Rattle.handler_post.specs.Ways.{IsReady};
+ghost use Rattle.dash_hall.specs.Growth.{WayCalled, no_token};
 ghost use Rattle.dash_hall.specs.Requests.{call_by, IfSent, IfErased};
 
 use dash_script::Script;
@@ -104,13 +104,7 @@ pub fn make<R: Wait>(
     request: Request,
 ) -> Result<(), NoMemory>
     requires { IsReady way.old }
-    ensures ready { IsReady way.new }
-    ensures same { IsSameWay way.old way.new }
-    ensures on { WayGoesOn way.old way.new }
-    ensures once { WayTurnsOnce way.old way.new }
-    ensures made { OnOk result (WayMakes way.old way.new (call_by handler request) []) }
-    ensures none { OnErr result (own way.new.poster.now ≡ own way.old.poster.now) }
-    ensures still { OnErr result (MadeNone way.old.poster.now way.new.poster.now) }
+    ensures called { WayCalled way.old way.new (call_by handler request) no_token result }
 {
     match request {
         Request::Send {

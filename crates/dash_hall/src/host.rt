@@ -1,14 +1,12 @@
 //! The looper on which a choreographer runs, as the choreographer sees it.
-ghost use Rattle.std.specs.Prelude.{◌≡◌, ◌<◌, [], ◌∷◌, IfOk, OnOk, OnErr, IsTrue};
+ghost use Rattle.std.specs.Prelude.{◌≡◌, ◌<◌, IfOk, OnOk, OnErr};
 ghost use mathlib.Core.List.{IsPrefix};
 ghost use Rattle.loop_model.specs.declared.call.Call.TheVariants.{Barrier, Unbarrier};
-ghost use Rattle.frame_phases.specs.Pulses.{is_pulse_if_any};
-ghost use Rattle.handler_post.specs.Ways.{MadeNone};
 ghost use Rattle.choreographer.specs.Known.{IsOf as IsFrameOf, MayDeliver};
-ghost use Rattle.choreographer.specs.Calls.{PulsedBy, GetsStamp, ComesAfter, DueBy, stamp_in};
-ghost use Rattle.dash_hall.specs.Growth.{own, GoesOn, TurnsOnce, Makes, BarsOf};
+ghost use Rattle.choreographer.specs.Calls.{PulsedBy, HasPulse, DueBy, stamp_in};
+ghost use Rattle.dash_hall.specs.Growth.{GoesOn, Called, no_token, one_token, BarsOf};
 ghost use Rattle.dash_hall.specs.Kits.{frame_badge_of};
-ghost use Rattle.dash_hall.specs.Hosts.{HostOrigin, origin_now, IsHostNow, IsSameHost, sends_of, IsPlaced, IsUnplaced, PlacesBy, PlacesNot};
+ghost use Rattle.dash_hall.specs.Hosts.{HostOrigin, origin_now, IsHostNow, StaysHost, sends_of, IsPlaced, IsUnplaced, PlacesBy, PlacesNot};
 
 use crate::barriers::{post_barrier, remove_barrier};
 use crate::uptime::{Still, Uptime};
@@ -90,13 +88,9 @@ impl<'a, R: Wait, U: Uptime> Host<'a, R, U> {
     /// Posts a barrier at the host's moment, and answers its token. NoMemory where it found none.
     pub fn post_barrier(&mut self) -> Result<u64, NoMemory>
         requires { IsHostNow self.old }
-        ensures ready { IsHostNow self.new }
-        ensures origin { IsSameHost self.old self.new }
-        ensures once { TurnsOnce self.old.poster.now self.new.poster.now }
-        ensures made { IfOk result (λ token. Makes self.old.poster.now self.new.poster.now (Barrier 0) (token ∷ [])) }
+        ensures stays { StaysHost self.old self.new }
+        ensures called { Called self.old.poster.now self.new.poster.now self.old.pass.now self.new.pass.now (Barrier 0) one_token result }
         ensures turn { IfOk result (λ token. BarsOf self.old.poster.now self.new.poster.now self.old.now token) }
-        ensures none { OnErr result (own self.new.poster.now ≡ own self.old.poster.now) }
-        ensures still { OnErr result (MadeNone self.old.poster.now self.new.poster.now) }
     {
         let mut way = Way {
             queue: self.queue,
@@ -110,12 +104,8 @@ impl<'a, R: Wait, U: Uptime> Host<'a, R, U> {
     /// Removes the barrier of the token. Where there is none, the history says so. NoMemory where it found none.
     pub fn remove_barrier(&mut self, token: u64) -> Result<(), NoMemory>
         requires { IsHostNow self.old }
-        ensures ready { IsHostNow self.new }
-        ensures origin { IsSameHost self.old self.new }
-        ensures once { TurnsOnce self.old.poster.now self.new.poster.now }
-        ensures made { OnOk result (Makes self.old.poster.now self.new.poster.now (Unbarrier token) []) }
-        ensures none { OnErr result (own self.new.poster.now ≡ own self.old.poster.now) }
-        ensures still { OnErr result (MadeNone self.old.poster.now self.new.poster.now) }
+        ensures stays { StaysHost self.old self.new }
+        ensures called { Called self.old.poster.now self.new.poster.now self.old.pass.now self.new.pass.now (Unbarrier token) no_token result }
     {
         let mut way = Way {
             queue: self.queue,
@@ -132,13 +122,10 @@ impl<'a, R: Wait, U: Uptime> Host<'a, R, U> {
         requires ready { IsHostNow self.old }
         requires pass { IsFrameOf pass.old c.now }
         requires delivers { MayDeliver pass.old c.now }
-        ensures ready { IsHostNow self.new }
-        ensures origin { IsSameHost self.old self.new }
+        ensures stays { StaysHost self.old self.new }
         ensures pass { frame_badge_of pass.new ≡ frame_badge_of pass.old }
-        ensures is_pulse { IsTrue (is_pulse_if_any c.now.constants.interval (stamp_in result)) }
         ensures pulse { PulsedBy pass.old pass.new (U.is_moment self.old.uptime.now) (sends_of self.old) (sends_of self.new) result }
-        ensures stamp { GetsStamp pass.old pass.new (stamp_in result) }
-        ensures later { ComesAfter pass.old (stamp_in result) }
+        ensures latest { HasPulse c.now.constants.interval pass.old pass.new (stamp_in result) }
     {
         c.on_vsync(self.rt, pass, self)
     }
@@ -148,8 +135,7 @@ impl<'a, R: Wait, U: Uptime> Host<'a, R, U> {
     pub fn on_due(&mut self, c: &Choreographer, pass: &mut FramePass, phase: u32) -> bool
         requires ready { IsHostNow self.old }
         requires pass { IsFrameOf pass.old c.now × (phase < c.now.constants.phases) }
-        ensures ready { IsHostNow self.new }
-        ensures origin { IsSameHost self.old self.new }
+        ensures stays { StaysHost self.old self.new }
         ensures pass { frame_badge_of pass.new ≡ frame_badge_of pass.old }
         ensures due { DueBy pass.old pass.new (U.is_moment self.old.uptime.now) phase result }
         ensures seen { IsPrefix pass.old.view.seen pass.new.view.seen }
@@ -170,8 +156,7 @@ impl<'a, R: Wait, U: Uptime> Host<'a, R, U> {
     ) -> Result<(), NoMemory>
         requires ready { IsHostNow self.old }
         requires pass { IsFrameOf pass.old c.now × (phase < c.now.constants.phases) }
-        ensures ready { IsHostNow self.new }
-        ensures origin { IsSameHost self.old self.new }
+        ensures stays { StaysHost self.old self.new }
         ensures pass { frame_badge_of pass.new ≡ frame_badge_of pass.old }
         ensures on { GoesOn self.old.poster.now self.new.poster.now self.old.pass.now self.new.pass.now }
         ensures turn { OnOk result (PlacesBy pass.old pass.new self.old.now (sends_of self.old) (sends_of self.new) phase id delay) }

@@ -7,9 +7,12 @@ use Rattle.loop_model.specs.Answers.{Setting}
 use Rattle.loop_model.specs.Posts.{moment_after}
 use Rattle.looper_run.specs.declared.by_clock.Loop.{Loop}
 use Rattle.looper_run.specs.declared.by_clock.Loop.TheVariants as loop
-use Rattle.looper_run.specs.Holding.{Looping}
+use Rattle.looper_run.specs.Holding.{Looping, Workplace, workplace}
 use Rattle.looper_run.specs.Loops.{LoopsOrGoes, is_over_then}
 use Rattle.looper_run.specs.LettingGo.{LetsGo, untold}
+use Rattle.atomic_table.specs.Seated.{TableId}
+use Rattle.shared_queue.specs.Known.{Shared}
+use Rattle.plain_loop.specs.Senders.{IsLooper}
 
 -- where its queue's entries are kept a looper waits until a second from now at the most, and else as long as it is to
 abbrev pub WaitsTo : (ℕ → Bool) → Bool → Option ℕ → Option ℕ → Type 0
@@ -25,6 +28,18 @@ LetsGoOf false gone before after = (gone ≡ Ok tt) × (after ≡ untold before)
 -- the test of this dispatcher's kind is always true
 abbrev pub IsAlwaysMet : {D : Type 0} → (D → ℕ → List Entry → List Act → Type 0) → Type 0
 IsAlwaysMet {D} Meets = (d : D) (s : ℕ) (es : List Entry) (acts : List Act) → Meets d s es acts
+
+-- a loop may dispatch by it: it serves this place, awaits none, and its test is always true
+pub record ServesAlways {D : Type 0} (Works : D → Workplace → Type 0) (Awaiting : D → Option ℕ → Type 0) (Passing : D → ℕ → List Entry → List Act → Type 0)
+    (d : D) (at : Workplace) : Type 0 where
+  pub serves : Works d at
+  pub awaits : Awaiting d None
+  pub meets : IsAlwaysMet Passing
+
+-- of a dispatcher: it serves what it served, and its origin stays
+pub record KeepsDispatcher {D : Type 0} {O : Type 0} (Works : D → Workplace → Type 0) (source : D → O) (before after : D) : Type 0 where
+  pub serves : (w : Workplace) → Works before w → Works after w
+  pub origin : source after ≡ source before
 
 module _ (keeps : Bool) (shows : ℕ → Bool) (s : Setting) (until : Option ℕ) where
   -- a loop by the clock with this answer, which waits no longer than it may; none where it was left in between
@@ -50,3 +65,11 @@ module _ (keeps : Bool) (shows : ℕ → Bool) (s : Setting) (until : Option ℕ
   -- so many of these, and then a loop that ended the looper
   abbrev pub LoopsToItsEnd : Looping → Looping → Type 0
   LoopsToItsEnd before after = (n : ℕ) × (last : Looping) × LoopsTimes n before last × LoopsOnce (Some loop.Ended) last after
+
+-- a looper of this queue and this pool that looped on in its place: it has ended where it is over, and else it may loop again
+pub record HasLooped (keeps : Bool) (shows : ℕ → Bool) (until : Option ℕ) (queue : Shared TableId) (pool : TableId)
+    (before after : Looping) (over : Bool) : Type 0 where
+  pub loops : LoopsOn keeps shows queue.constants.setting until over before after
+  pub ended : after.ended ≡ over
+  pub looper : over ≡ false → IsLooper queue pool after
+  pub place : workplace after.held ≡ workplace before.held

@@ -2,8 +2,8 @@
 ghost use Rattle.std.specs.Prelude.{◌≡◌, ◌≢◌, ◌<◌, true, false, length, Some, None, OnOk, OnErr, IfOk};
 ghost use Rattle.looper_run.specs.declared.by_clock.Loop.TheVariants as loop;
 ghost use Rattle.looper_run.specs.Loops.{is_over_then};
-ghost use Rattle.looper_run.specs.Holding.{Workplace, workplace};
-ghost use Rattle.plain_loop.specs.Looping.{IsAlwaysMet, LoopsOn, LoopsToItsEnd};
+ghost use Rattle.looper_run.specs.Holding.{workplace};
+ghost use Rattle.plain_loop.specs.Looping.{ServesAlways, KeepsDispatcher, HasLooped, LoopsToItsEnd};
 ghost use Rattle.plain_loop.specs.Senders.{IsSender, AreSenders, IsOneFewer, IsLooper};
 
 use crate::handlers::{Handle, Handling};
@@ -51,15 +51,9 @@ pub fn loop_and_let_go<
 ) -> Result<bool, NoMemory>
     requires looper { IsLooper mailbox.now.queue.now mailbox.now.pool.now looper.old }
     requires free { mailbox.now.queue.now.constants.setting.lockstep ≡ false }
-    requires serves { D.Serves dispatcher.old (workplace looper.old.held) }
-    requires awaits { D.Awaits dispatcher.old None }
-    requires meets { IsAlwaysMet D.Meets }
-    ensures looped { IfOk result (λ over. LoopsOn E.keeps (C.shows mailbox.now.clock.now) mailbox.now.queue.now.constants.setting until over looper.old looper.new) }
-    ensures ended { IfOk result (λ over. looper.new.ended ≡ over) }
-    ensures looper { IfOk result (λ over. over ≡ false → IsLooper mailbox.now.queue.now mailbox.now.pool.now looper.new) }
-    ensures place { OnOk result (workplace looper.new.held ≡ workplace looper.old.held) }
-    ensures serves { (w : Workplace) → D.Serves dispatcher.old w → D.Serves dispatcher.new w }
-    ensures origin { D.origin dispatcher.new ≡ D.origin dispatcher.old }
+    requires ready { ServesAlways D.Serves D.Awaits D.Meets dispatcher.old (workplace looper.old.held) }
+    ensures looped { IfOk result (HasLooped E.keeps (C.shows mailbox.now.clock.now) until mailbox.now.queue.now mailbox.now.pool.now looper.old looper.new) }
+    ensures keeps { KeepsDispatcher D.Serves D.origin dispatcher.old dispatcher.new }
     ensures awaits { OnOk result (D.Awaits dispatcher.new None) }
 {
     let by = ByClock {

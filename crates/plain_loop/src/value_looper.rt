@@ -1,8 +1,8 @@
 //! Loops of loopers whose messages may carry a value.
 ghost use Rattle.std.specs.Prelude.{◌≡◌, ◌+◌, ◌<◌, ℕ, false, None, true, length, OnOk, IfOk};
-ghost use Rattle.looper_run.specs.Holding.{Workplace, workplace};
+ghost use Rattle.looper_run.specs.Holding.{workplace};
 ghost use Rattle.looper_run.specs.Tests.{IsSameLooper};
-ghost use Rattle.plain_loop.specs.Looping.{IsAlwaysMet, LetsGoOf, LoopsOn, LoopsToItsEnd};
+ghost use Rattle.plain_loop.specs.Looping.{LetsGoOf, ServesAlways, KeepsDispatcher, HasLooped, LoopsToItsEnd};
 ghost use Rattle.plain_loop.specs.Senders.{IsSender, AreSenders, IsLooper};
 
 use crate::beside::{MOST_AT_ONCE, is_over};
@@ -41,14 +41,9 @@ fn loop_and_drop<
 ) -> Result<bool, NoMemory>
     requires looper { IsLooper mailbox.now.queue.now mailbox.now.pool.now looper.old }
     requires free { mailbox.now.queue.now.constants.setting.lockstep ≡ false }
-    requires serves { D.Serves dispatcher.old (workplace looper.old.held) }
-    requires awaits { D.Awaits dispatcher.old None }
-    requires meets { IsAlwaysMet D.Meets }
-    ensures looped { IfOk result (λ over. LoopsOn false (C.shows mailbox.now.clock.now) mailbox.now.queue.now.constants.setting until over looper.old looper.new) }
-    ensures ended { IfOk result (λ over. looper.new.ended ≡ over) }
-    ensures looper { IfOk result (λ over. over ≡ false → IsLooper mailbox.now.queue.now mailbox.now.pool.now looper.new) }
-    ensures place { OnOk result (workplace looper.new.held ≡ workplace looper.old.held) }
-    ensures serves { (w : Workplace) → D.Serves dispatcher.old w → D.Serves dispatcher.new w }
+    requires ready { ServesAlways D.Serves D.Awaits D.Meets dispatcher.old (workplace looper.old.held) }
+    ensures looped { IfOk result (HasLooped false (C.shows mailbox.now.clock.now) until mailbox.now.queue.now mailbox.now.pool.now looper.old looper.new) }
+    ensures keeps { KeepsDispatcher D.Serves D.origin dispatcher.old dispatcher.new }
     ensures awaits { OnOk result (D.Awaits dispatcher.new None) }
 {
     let by = ByClock {

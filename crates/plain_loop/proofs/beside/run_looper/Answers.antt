@@ -14,8 +14,8 @@ loop-init g c =
 
 pub loop-preserved : goal.loop-preserved
 loop-preserved g c = record {
-  looper = c.in_ok-loop_and_let_go.ensures.looper c.if-branch.false;
-  serves = c.loop_and_let_go.ensures.serves _ (place_still _ _ _ _ c.in_ok-loop_and_let_go.ensures.place c.loop.invariant.serves);
-  looped = times_more _ _ _ _ _ _ c.loop.looper c.loop_and_let_go.new.looper _ c.if-branch.false c.loop.invariant.looped.1 c.in_ok-loop_and_let_go.ensures.looped;
+  looper = c.in_ok-loop_and_let_go.ensures.looped.looper c.if-branch.false;
+  serves = c.loop_and_let_go.ensures.keeps.serves _ (place_still _ _ _ _ c.in_ok-loop_and_let_go.ensures.looped.place c.loop.invariant.serves);
+  looped = times_more _ _ _ _ _ _ c.loop.looper c.loop_and_let_go.new.looper _ c.if-branch.false c.loop.invariant.looped.1 c.in_ok-loop_and_let_go.ensures.looped.loops;
   holds = c.in_ok-loop_and_let_go.ensures.awaits;
 }

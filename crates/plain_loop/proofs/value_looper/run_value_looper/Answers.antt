@@ -14,8 +14,8 @@ loop-init g c =
 
 pub loop-preserved : goal.loop-preserved
 loop-preserved g c = record {
-  looper = c.in_ok-loop_and_drop.ensures.looper c.if-branch.false;
-  serves = c.loop_and_drop.ensures.serves _ (place_still _ _ _ _ c.in_ok-loop_and_drop.ensures.place c.loop.invariant.serves);
-  looped = times_more false (g.C.Clock.shows c.args.mailbox.now.clock.now) c.args.mailbox.now.queue.now.constants.setting None c.loop.invariant.looped.0 c.args.looper.now c.loop.looper c.loop_and_drop.new.looper _ c.if-branch.false c.loop.invariant.looped.1 c.in_ok-loop_and_drop.ensures.looped;
+  looper = c.in_ok-loop_and_drop.ensures.looped.looper c.if-branch.false;
+  serves = c.loop_and_drop.ensures.keeps.serves _ (place_still _ _ _ _ c.in_ok-loop_and_drop.ensures.looped.place c.loop.invariant.serves);
+  looped = times_more false (g.C.Clock.shows c.args.mailbox.now.clock.now) c.args.mailbox.now.queue.now.constants.setting None c.loop.invariant.looped.0 c.args.looper.now c.loop.looper c.loop_and_drop.new.looper _ c.if-branch.false c.loop.invariant.looped.1 c.in_ok-loop_and_drop.ensures.looped.loops;
   holds = c.in_ok-loop_and_drop.ensures.awaits;
 }

@@ -1,9 +1,13 @@
+use Rattle.std.proofs.Common.{rules}
 use Rattle.dash_hall.proofs.Sending.{hosted}
 use Rattle.dash_hall.proofs.HostClock.{unbarred_adds}
 use Rattle.dash_hall.proofs.host.Host.remove_barrier.Goals as goal
 
-pub returns-clause-ready : goal.returns-clause-ready
-returns-clause-ready g c =
+pub returns-clause-stays : goal.returns-clause-stays
+returns-clause-stays g c =
     let h = c.args.self.now in
-    hosted _ h.poster.now c.remove_barrier.new.way.poster.now h.pass.now c.remove_barrier.new.way.pass.now c.requires c.remove_barrier.ensures.on
-    (unbarred_adds h.now c.args.token h.poster.now c.remove_barrier.new.way.poster.now h.pass.now c.remove_barrier.new.way.pass.now c.remove_barrier.result c.remove_barrier.ensures.on c.remove_barrier.ensures.made c.remove_barrier.ensures.none)
+    record {
+      ready = hosted _ h.poster.now c.remove_barrier.new.way.poster.now h.pass.now c.remove_barrier.new.way.pass.now c.requires c.remove_barrier.ensures.called.by.on
+          (unbarred_adds h.now c.args.token h.poster.now c.remove_barrier.new.way.poster.now h.pass.now c.remove_barrier.new.way.pass.now c.remove_barrier.result c.remove_barrier.ensures.called.by.on c.remove_barrier.ensures.called.by.made c.remove_barrier.ensures.called.by.none);
+      origin = search rules;
+    }

@@ -10,9 +10,10 @@ use Rattle.dash_hall.specs.Hosts.{origin_now}
 use Rattle.dash_loopers.specs.Played.{calls_of}
 use Rattle.dash_loopers.proofs.PlaySteps.{untold_hosted, played_with}
 use Rattle.dash_loopers.proofs.LooperPlaces.{frame_of_badge, its_phases}
-use Rattle.dash_loopers.proofs.LatestPulses.{due_keeps_latest}
+use Rattle.dash_loopers.proofs.LatestPulses.{due_keeps_latest, due_may_await}
 use Rattle.dash_loopers.proofs.player.Place.on_due.Goals as goal
 use Rattle.dash_loopers.proofs.LooperLeaves.{queue_left, keeps_hosted, tells_none}
+use Rattle.dash_loopers.specs.declared.player.Parts.{Parts}
 
 pub on_due-requires-clause-pass : goal.on_due-requires-clause-pass
 on_due-requires-clause-pass g c =
@@ -25,7 +26,7 @@ pub returns-clause-plays : goal.returns-clause-plays
 returns-clause-plays g c = λ text a is.
     (let h = c.host-host.result in
     let k = c.on_due.new.self in
-    let calls = untold_hosted (origin_now h) (origin_now k) c.args.own.now.poster.now h.poster.now k.poster.now k.pass.now c.on_due.ensures.origin c.on_due.ensures.ready c.host-host.ensures.host.began.0 c.host-host.ensures.host.by_poster.1 c.on_due.ensures.sends in
+    let calls = untold_hosted (origin_now h) (origin_now k) c.args.own.now.poster.now h.poster.now k.poster.now k.pass.now c.on_due.ensures.stays.origin c.on_due.ensures.stays.ready c.host-host.ensures.host.began.0 c.host-host.ensures.host.by_poster.1 c.on_due.ensures.sends in
     played_with c.args.self.now.script.now c.args.self.now.looper (calls_of c.args.own.now.poster.now) (calls_of k.poster.now) c.args.parts.now _ a calls refl refl refl is)
 
 pub returns-clause-due : goal.returns-clause-due
@@ -48,20 +49,21 @@ pub returns-then-phase-phases-clause-leaves : goal.returns-then-phase-phases-cla
 returns-then-phase-phases-clause-leaves g c = queue_left c.args.now c.args.parts.now c.args.own.now
 
 pub returns-then-phase-phases-clause-asks : goal.returns-then-phase-phases-clause-asks
-returns-then-phase-phases-clause-asks g c = record { seen = prefix_self c.args.parts.now.frames.view.seen; asks = refl; latest = λ stamp has. has }
+returns-then-phase-phases-clause-asks g c = record { seen = prefix_self c.args.parts.now.frames.view.seen; asks = refl; latest = λ stamp waits has. has }
 
 pub returns-clause-leaves : goal.returns-clause-leaves
 returns-clause-leaves g c =
     let own = c.args.own.now in
-    keeps_hosted c.args.self.now.looper c.args.now _ own.poster.now own.pass.now _ _ c.host-host.result c.on_due.new.self c.host-host.ensures.host c.on_due.ensures.ready c.on_due.ensures.origin
-    c.args.parts.now _ own _ refl refl refl refl (record { poster = refl; pass = refl; journal = refl }) (tells_none own.journal.now) (record { others = refl; frames = c.on_due.ensures.pass; client = refl }) refl
+    let after : Parts = record c.args.parts.now { frames = c.on_due.new.pass } in
+    keeps_hosted c.args.self.now.looper c.args.now _ own.poster.now own.pass.now _ _ c.host-host.result c.on_due.new.self c.host-host.ensures.host c.on_due.ensures.stays.ready c.on_due.ensures.stays.origin
+    c.args.parts.now after own _ refl refl refl refl (record { poster = refl; pass = refl; journal = refl }) (tells_none own.journal.now) (record { others = refl; frames = c.on_due.ensures.pass; client = refl; awaits = due_may_await c.args.parts.now after (λ n. n == nanos_of c.host-host.result.uptime.now.now) c.args.phase c.on_due.result c.on_due.ensures.due refl }) refl
 
 pub returns-clause-tells : goal.returns-clause-tells
 returns-clause-tells g c =
     let h = c.host-host.result in
     let k = c.on_due.new.self in
     record {
-      calls = untold_hosted (origin_now h) (origin_now k) c.args.own.now.poster.now h.poster.now k.poster.now k.pass.now c.on_due.ensures.origin c.on_due.ensures.ready c.host-host.ensures.host.began.0 c.host-host.ensures.host.by_poster.1 c.on_due.ensures.sends;
+      calls = untold_hosted (origin_now h) (origin_now k) c.args.own.now.poster.now h.poster.now k.poster.now k.pass.now c.on_due.ensures.stays.origin c.on_due.ensures.stays.ready c.host-host.ensures.host.began.0 c.host-host.ensures.host.by_poster.1 c.on_due.ensures.sends;
       acts = refl;
     }
 

@@ -11,10 +11,10 @@ pub returns-clause-leaves : goal.returns-clause-leaves
 returns-clause-leaves g c = record {
   own = record { poster = refl; pass = refl; journal = refl };
   rung = refl;
-  lent = lent_pass c.args.own.now.poster.now c.args.own.now.pass.now c.make.new.way.pass.now c.args.own.now.journal.now c.make.ensures.on.home c.make.ensures.on.back;
+  lent = lent_pass c.args.own.now.poster.now c.args.own.now.pass.now c.make.new.way.pass.now c.args.own.now.journal.now c.make.ensures.called.by.on.home c.make.ensures.called.by.on.back;
 }
 
 pub returns-clause-untimed : goal.returns-clause-untimed
 returns-clause-untimed g c =
     subst (λ (p : Sender). AddsUntimed c.args.poster.now p) (search rules)
-    (made_untimed c.args.poster.now c.make.new.way.poster.now c.args.own.now.pass.now c.make.new.way.pass.now (call_by c.args.handler c.args.request) c.make.result c.make.ensures.on (no_moment_by c.args.handler c.args.request) c.make.ensures.made c.make.ensures.none)
+    (made_untimed c.args.poster.now c.make.new.way.poster.now c.args.own.now.pass.now c.make.new.way.pass.now (call_by c.args.handler c.args.request) c.make.result c.make.ensures.called.by.on (no_moment_by c.args.handler c.args.request) c.make.ensures.called.by.made c.make.ensures.called.by.none)

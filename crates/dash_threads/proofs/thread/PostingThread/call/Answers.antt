@@ -31,15 +31,15 @@ returns-then-place-len-2-clause-works g c =
     record {
       thread = record {
         number = c.requires.at_work.thread.number;
-        posters = posters_kept t.number c.args.hall.now.queues.items t.kit.posters.items c.requires.at_work.thread.posters c.args.looper c.perform_by.new.poster c.index_mut.result.now (gone_badge _ _ _ _ c.perform_by.ensures.on ∙ ap badge_of c.index_mut.ensures.value);
+        posters = posters_kept t.number c.args.hall.now.queues.items t.kit.posters.items c.requires.at_work.thread.posters c.args.looper c.perform_by.new.poster c.index_mut.result.now (gone_badge _ _ _ _ c.perform_by.ensures.called.on ∙ ap badge_of c.index_mut.ensures.value);
         frames = c.requires.at_work.thread.frames;
-        pass = c.perform_by.ensures.on.home ∙ c.requires.at_work.thread.pass;
+        pass = c.perform_by.ensures.called.on.home ∙ c.requires.at_work.thread.pass;
       };
       number = refl;
       passed = refl;
       goes = refl;
       bells = map-set_same (λ (z : Sender). z.view.rung) t.kit.posters.items c.args.looper c.perform_by.new.poster c.index_mut.result.now
-          (c.perform_by.ensures.on.rung ∙ ap (λ (z : Sender). z.view.rung) c.index_mut.ensures.value);
+          (c.perform_by.ensures.called.on.rung ∙ ap (λ (z : Sender). z.view.rung) c.index_mut.ensures.value);
     }
 
 pub returns-then-place-len-2-clause-made : goal.returns-then-place-len-2-clause-made
@@ -53,8 +53,8 @@ returns-then-place-len-2-clause-made g c =
     (λ token. IsAtItsMoment c.args.call token p q)
     (λ token. CallsAt c.args.looper c.args.call token posters (set posters c.args.looper q))
     (λ token made at. calls_at_set posters c.args.looper p q c.args.call token c.index_mut.ensures.value near
-    (record { sender = c.perform_by.ensures.on.sender; seen = (c.perform_by.ensures.on.more, sym c.perform_by.ensures.on.seen); made = made; moment = at }))
-    c.perform_by.ensures.made c.perform_by.ensures.moment
+    (record { sender = c.perform_by.ensures.called.on.sender; seen = (c.perform_by.ensures.called.on.more, sym c.perform_by.ensures.called.on.seen); made = made; moment = at }))
+    c.perform_by.ensures.called.made c.perform_by.ensures.moment
 
 pub returns-clause-made : goal.returns-clause-made
 returns-clause-made g c =
