@@ -161,5 +161,5 @@ pub used_nowhere : (kits : List Kit) → All IsNewKit kits → AreUsedNowhere ki
 used_nowhere kits new k q d lt =
     let kit = new k d lt in (
       λ p at. (let p' = kit.posters q p at in (p'.seen, p'.sealed)),
-      λ p at. (let p' = kit.frames q p at in (p'.seen, p'.turns, p'.own, p'.handed, p'.heard, p'.stamp)),
+      λ p at. (let p' = kit.frames q p at in (p'.seen, p'.turns, p'.own, p'.handed, p'.heard, p'.stamp, p'.awaits)),
     )

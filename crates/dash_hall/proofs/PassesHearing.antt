@@ -15,7 +15,7 @@ use Rattle.dash_hall.proofs.Sharing.{each_then, each_self}
 -- a pass as it is
 pub pass_heard_self : (p : Pass) → PassHasHeard p p
 pass_heard_self p = record {
-  same = record { table = refl; number = refl; constants = refl; turns = refl; found = refl; left = refl; frame = refl; own = refl; handed = refl; stamp = refl };
+  same = record { table = refl; number = refl; constants = refl; turns = refl; found = refl; left = refl; frame = refl; own = refl; handed = refl; stamp = refl; awaits = refl };
   seen = prefix_self p.view.seen;
   more = prefix_self p.view.heard;
 }
@@ -38,6 +38,7 @@ pass_heard_then p q r f g = record {
     own = g.same.own ∙ f.same.own;
     handed = g.same.handed ∙ f.same.handed;
     stamp = g.same.stamp ∙ f.same.stamp;
+    awaits = g.same.awaits ∙ f.same.awaits;
   };
   seen = prefix_trans p.view.seen q.view.seen r.view.seen f.seen g.seen;
   more = prefix_trans p.view.heard q.view.heard r.view.heard f.more g.more;

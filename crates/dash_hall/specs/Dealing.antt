@@ -11,13 +11,14 @@ use Rattle.choreographer.specs.Ends.{AreNew as AreNewPasses, IsNewPass}
 use Rattle.dash_hall.specs.declared.kit.Kit.{Kit}
 use Rattle.dash_hall.specs.Kits.{Badge, badge_of, badge_for, FrameBadge, frame_badge_of, frame_badge_for}
 
--- a poster that has seen nothing and handed nothing out, and a pass that has seen and heard nothing, taken no turn, recorded nothing, handed nothing out and
--- delivered no pulse
+-- a poster that has seen nothing and handed nothing out, and a pass that has seen and heard nothing, taken no turn, recorded nothing, handed nothing out,
+-- delivered no pulse and knows of no frame that is to begin
 abbrev pub IsUnusedPoster : Sender → Type 0
 IsUnusedPoster p = (p.view.seen ≡ []) × (p.view.sealed ≡ [])
 
 abbrev pub IsUnusedPass : Pass → Type 0
 IsUnusedPass p = (p.view.seen ≡ []) × (p.view.turns ≡ 0) × (p.view.own ≡ []) × (p.view.handed ≡ 0) × (p.view.heard ≡ []) × (p.view.stamp ≡ 0)
+    × (p.view.awaits ≡ 0)
 
 -- a pass of the pool that has looked for no slot, lost none, taken none and given none back
 abbrev pub HasCountedNothing : Tally → Type 0

@@ -115,7 +115,7 @@ abbrev pub AreUnseen : List Sender → Type 0
 AreUnseen ps = (q : ℕ) (p : Sender) → q < length ps → (slice_index_or ps q p).view.seen ≡ []
 
 -- the kit's posters have seen no call and handed nothing out, and its passes have seen no frame callback and heard of none, taken no turn, recorded nothing,
--- handed nothing out and delivered no pulse
+-- handed nothing out, delivered no pulse, and know of no frame that is to begin
 pub record IsUnusedKit (kit : Kit) : Type 0 where
   pub posters : AreUnseen kit.posters.items
   pub sealed : (q : ℕ) (p : Sender) → q < length kit.posters.items → (slice_index_or kit.posters.items q p).view.sealed ≡ []
@@ -125,6 +125,7 @@ pub record IsUnusedKit (kit : Kit) : Type 0 where
   pub handed : (q : ℕ) (p : Pass) → q < length kit.frames.items → (slice_index_or kit.frames.items q p).view.handed ≡ 0
   pub heard : (q : ℕ) (p : Pass) → q < length kit.frames.items → (slice_index_or kit.frames.items q p).view.heard ≡ []
   pub stamp : (q : ℕ) (p : Pass) → q < length kit.frames.items → (slice_index_or kit.frames.items q p).view.stamp ≡ 0
+  pub awaits : (q : ℕ) (p : Pass) → q < length kit.frames.items → (slice_index_or kit.frames.items q p).view.awaits ≡ 0
 
 abbrev pub AreUnusedKits : List Kit → Type 0
 AreUnusedKits kits = (k : ℕ) (d : Kit) → k < length kits → IsUnusedKit (slice_index_or kits k d)

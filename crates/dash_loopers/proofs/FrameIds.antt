@@ -29,8 +29,9 @@ use Rattle.run_model.specs.FrameRuns.{frame_ids, is_frame_from, begins_with, has
 use Rattle.run_model.proofs.FrameKeeping.{all-reverse, all-in_due_order, posted_in, posted-reverse, before_first-step, told_before, KeepsFrames-lawful}
 use Rattle.run_model.specs.FrameAsks.{Runs, asked_in, asks_in}
 use Rattle.dash_hall.specs.Hosts.{asks_of}
-use Rattle.dash_loopers.specs.Played.{KeepsLatest, RanFrame, ids_of}
+use Rattle.dash_loopers.specs.Played.{RanFrame, ids_of}
 use Rattle.dash_loopers.proofs.LooperLists.{at_seam}
+use Rattle.dash_loopers.specs.Places.{HasEndedWait}
 
 -- ---- where the latest frame began
 
@@ -251,8 +252,8 @@ added_at xs ys zs more e place is long whole =
 pub turn_grew : (f g : Pass) (x y : Kept) → IsTurn f g x y → IsPrefix f.view.seen g.view.seen
 turn_grew f g x y t = prefix_trans f.view.seen x.frames.entries g.view.seen t.begins.0 (subst (IsPrefix x.frames.entries) (sym t.seen) t.grows)
 
-pub no_frame : (interval phases : ℕ) (is_moment : ℕ → Bool) (before after : Pass) (told : List Run) → told ≡ [] → IsPrefix before.view.seen after.view.seen → after.view.own ≡ before.view.own → KeepsLatest before after → RanFrame interval phases is_moment before after (ids_of told)
-no_frame interval phases is_moment before after told none grew own keeps = record {
+pub no_frame : (interval phases : ℕ) (is_moment : ℕ → Bool) (before after : Pass) (told : List Run) → told ≡ [] → IsPrefix before.view.seen after.view.seen → after.view.own ≡ before.view.own → RanFrame interval phases is_moment before after (ids_of told)
+no_frame interval phases is_moment before after told none grew own = record {
   frame = None;
   start = 0;
   framed = λ fs begins is. (refl, ap ids_of (sym none), refl, refl);
@@ -260,8 +261,7 @@ no_frame interval phases is_moment before after told none grew own keeps = recor
   within = omega arith;
   grew = grew;
   asks = ap asks_in own ∙ sym (append-nil (asks_of before));
-  kept = keeps;
-  stamped = λ stamp has fs begins. refl;
+  stamped = λ stamp waits has fs begins. refl;
 }
 
 -- a frame that was run was asked for by its start
@@ -269,8 +269,8 @@ frame_asks : (is_moment : ℕ → Bool) (before after : Pass) (adds : AddsFrame 
 frame_asks is_moment before after adds = frame_tells asked_in (λ p n t. refl) (λ n. refl) is_moment before after adds
 
 -- a frame ran the callbacks that its client tells, at moments of the host
-pub framed_ran : (interval phases : ℕ) (is_moment : ℕ → Bool) (before after : Pass) (told : List Run) (r : Framed) → 0 < phases → FramedBy phases before after is_moment (Some []) (Some told) r → RecordsBy is_moment before after r → KeepsLatest before after → UnlessNoMemory r (RanFrame interval phases is_moment before after (ids_of told))
-framed_ran interval phases is_moment before after told Done some (start, time, middle, moment, turn, (batches, told_is, long, are, (y, left, numbers, batches_are, at, near, none, settled, seen_is), turns, grew, each)) records keeps =
+pub framed_ran : (interval phases : ℕ) (is_moment : ℕ → Bool) (before after : Pass) (told : List Run) (r : Framed) → 0 < phases → FramedBy phases before after is_moment (Some []) (Some told) r → RecordsBy is_moment before after r → UnlessNoMemory r (RanFrame interval phases is_moment before after (ids_of told))
+framed_ran interval phases is_moment before after told Done some (start, time, middle, moment, turn, (batches, told_is, long, are, (y, left, numbers, batches_are, at, near, none, settled, seen_is), turns, grew, each)) records =
     let same : told ≡ runs_of batches = cc (told_is) in
     let many : length batches ≡ length (batches_since (past_of y.frames)) = ap length batches_are in
     let few : 0 < length (batches_since (past_of y.frames)) = omega (arith, some, long, many) in
@@ -299,23 +299,22 @@ framed_ran interval phases is_moment before after told Done some (start, time, m
       within = omega (arith, at, prefix_length middle.view.seen after.view.seen grew);
       grew = prefix_trans before.view.seen middle.view.seen after.view.seen (turn_grew before middle turn.0 turn.1 turn.2) grew;
       asks = frame_asks is_moment before after records;
-      kept = keeps;
-      stamped = λ stamp has fs begins. (
+      stamped = λ stamp waits has fs begins. (
           let whole : y.frames.entries ++ begins.0 ≡ fs = ap (λ l. l ++ begins.0) seen_is ∙ begins.1 in
           let stood = added_at x.frames.entries middle.view.seen (y.frames.entries ++ begins.0) (grew.0 ++ begins.0) (Begin x.stamp start time) place began at
           (sym (append_assoc middle.view.seen grew.0 begins.0) ∙ ap (λ l. l ++ begins.0) (grew.1 ∙ sym seen_is)) in
           let same : x.stamp ≡ stamp = (turn.2.stamp has.key has.constants has.alone).0 ∙ has.has in
           ap (λ (l : List FrameEntry). has_stamp l (Some place) stamp) (sym whole) ∙ (ap (λ (o : Option FrameEntry). option_map_or (begins_with stamp) o false) stood ∙ eq-eqb x.stamp stamp same));
     }
-framed_ran interval phases is_moment before after told (Elsewhere next) some (start, moment, turn, told_is) own keeps = no_frame interval phases is_moment before after told (let same : told ≡ [] = cc (told_is) in same) (turn_grew before after turn.0 turn.1 turn.2) own keeps
-framed_ran interval phases is_moment before after told Unscheduled some (start, moment, turn, told_is) own keeps = no_frame interval phases is_moment before after told (let same : told ≡ [] = cc (told_is) in same) (turn_grew before after turn.0 turn.1 turn.2) own keeps
-framed_ran interval phases is_moment before after told (Backwards last) some (start, moment, turn, told_is) own keeps = no_frame interval phases is_moment before after told (let same : told ≡ [] = cc (told_is) in same) (turn_grew before after turn.0 turn.1 turn.2) own keeps
-framed_ran interval phases is_moment before after told NoMemory some t records keeps = tt
+framed_ran interval phases is_moment before after told (Elsewhere next) some (start, moment, turn, told_is) own = no_frame interval phases is_moment before after told (let same : told ≡ [] = cc (told_is) in same) (turn_grew before after turn.0 turn.1 turn.2) own
+framed_ran interval phases is_moment before after told Unscheduled some (start, moment, turn, told_is) own = no_frame interval phases is_moment before after told (let same : told ≡ [] = cc (told_is) in same) (turn_grew before after turn.0 turn.1 turn.2) own
+framed_ran interval phases is_moment before after told (Backwards last) some (start, moment, turn, told_is) own = no_frame interval phases is_moment before after told (let same : told ≡ [] = cc (told_is) in same) (turn_grew before after turn.0 turn.1 turn.2) own
+framed_ran interval phases is_moment before after told NoMemory some t records = tt
 
 -- what holds where memory was not wanting
-pub not_wanting : (r : Framed) (P : Type 0) → (r ≡ NoMemory → ⊥) → UnlessNoMemory r P → P
-not_wanting Done P isnt h = h
-not_wanting (Elsewhere next) P isnt h = h
-not_wanting Unscheduled P isnt h = h
-not_wanting (Backwards last) P isnt h = h
-not_wanting NoMemory P isnt h = absurd (isnt refl)
+pub not_wanting : (r : Framed) (P : Type 0) → HasEndedWait r → UnlessNoMemory r P → P
+not_wanting Done P ended h = h
+not_wanting (Elsewhere next) P ended h = h
+not_wanting Unscheduled P ended h = h
+not_wanting (Backwards last) P ended h = h
+not_wanting NoMemory P ended h = absurd ended

@@ -6,15 +6,15 @@ use Rattle.std.proofs.lemmas.List.Sums.{fold-append}
 use Rattle.frame_phases.specs.declared.entry.Callback.{Callback}
 use Rattle.looper_run.specs.Holding.{Sender}
 use Rattle.choreographer.specs.declared.frame.Framed.{Framed}
-use Rattle.choreographer.specs.declared.frame.Framed.TheVariants.{NoMemory}
 use Rattle.choreographer.specs.Known.{Known as Pass}
 use Rattle.choreographer.specs.Client.{Run}
 use Rattle.choreographer.specs.Done.{FramedBy, RecordsBy, UnlessNoMemory}
 use Rattle.dash_script.specs.declared.script.Script.{Script}
 use Rattle.run_model.specs.Loopers.{Looper, callback_ran}
 use Rattle.dash_loopers.specs.declared.view_root.ViewRoot.{ViewRoot}
-use Rattle.dash_loopers.specs.Played.{KeepsLatest, RanFrame, calls_of, ids_of, IsShown, Shows}
+use Rattle.dash_loopers.specs.Played.{RanFrame, calls_of, ids_of, IsShown, Shows, EndsLatest}
 use Rattle.dash_loopers.proofs.FrameIds.{framed_ran, not_wanting}
+use Rattle.dash_loopers.specs.Places.{HasEndedWait}
 
 -- no callback ran yet
 pub none_ran : (s : Script) (q now : ℕ) (p p' : Sender) (root root' : ViewRoot) (ran : List Run) → p ≡ p' → root ≡ root' → ran ≡ []
@@ -38,15 +38,16 @@ FrameShows now ids p root p' root' = (s : Script) (q : ℕ) → Shows s q (λ a.
 
 -- a frame's callbacks ran, and show what they do
 pub frame_shown : {E : Type 0} (r : Result Unit E) (how : Framed) (interval phases now now' : ℕ) (is_moment : ℕ → Bool) (before after : Pass) (first told : List Run) (p began p' : Sender) (root began_root root' given : ViewRoot)
-    → OnOk r (how ≡ NoMemory → ⊥) → 0 < phases → first ≡ [] → FramedBy phases before after is_moment (Some first) (Some told) how → RecordsBy is_moment before after how → KeepsLatest before after → UnlessNoMemory how (FrameShows now' (ids_of told) began began_root p' root')
+    → OnOk r (HasEndedWait how) → 0 < phases → first ≡ [] → FramedBy phases before after is_moment (Some first) (Some told) how → RecordsBy is_moment before after how → (HasEndedWait how → EndsLatest before after) → UnlessNoMemory how (FrameShows now' (ids_of told) began began_root p' root')
     → now' ≡ now → began ≡ p → began_root ≡ root → given ≡ root'
-    → OnOk r ((ids : List ℕ) × RanFrame interval phases is_moment before after ids × FrameShows now ids p root p' given)
-frame_shown (Ok u) how interval phases now now' is_moment before after first told p began p' root began_root root' given had some none framed records keeps shows e f g h =
-    let ran = not_wanting how (RanFrame interval phases is_moment before after (ids_of told)) had (framed_ran interval phases is_moment before after told how some (subst (λ (l : List Run). FramedBy phases before after is_moment (Some l) (Some told) how) none framed) records keeps) in
+    → OnOk r ((ids : List ℕ) × RanFrame interval phases is_moment before after ids × EndsLatest before after × FrameShows now ids p root p' given)
+frame_shown (Ok u) how interval phases now now' is_moment before after first told p began p' root began_root root' given had some none framed records ends shows e f g h =
+    let ran = not_wanting how (RanFrame interval phases is_moment before after (ids_of told)) had (framed_ran interval phases is_moment before after told how some (subst (λ (l : List Run). FramedBy phases before after is_moment (Some l) (Some told) how) none framed) records) in
     let shown = not_wanting how (FrameShows now' (ids_of told) began began_root p' root') had shows in (
       ids_of told,
       ran,
+      ends had,
       subst (λ (v : ViewRoot). FrameShows now (ids_of told) p root p' v) (sym h)
           (subst (λ (v : ViewRoot). FrameShows now (ids_of told) p v p' root') g (subst (λ (z : Sender). FrameShows now (ids_of told) z began_root p' root') f (subst (λ (n : ℕ). FrameShows n (ids_of told) began began_root p' root') e shown))),
     )
-frame_shown (Err x) how interval phases now now' is_moment before after first told p began p' root began_root root' given had some none framed records keeps shows e f g h = tt
+frame_shown (Err x) how interval phases now now' is_moment before after first told p began p' root began_root root' given had some none framed records ends shows e f g h = tt

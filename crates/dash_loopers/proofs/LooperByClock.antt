@@ -77,7 +77,7 @@ module _ (s : Script) (q : ℕ) (began : StageLooper) where
       (subst (λ (l : List Entry). IsPlayingBy s q began k l (acts' ++ Dispatch n time route ∷ []) parts') (sym whole) (λ text did a come.
       (let c = meets text did a come in
       let frame = here.ran.frame in
-      let alike = delivered_alike s q u time here.ids m (taken q n time u frame c.did) (taken q n time time frame c.state) once (taken_alike q n time u time frame c.did c.state c.alike) in
+      let alike = delivered_alike s q u time here.ids m (taken q n time u frame m c.did) (taken q n time time frame m c.state) once (taken_alike q n time u time frame m c.did c.state c.alike) in
       record {
         did = by_reading s q k n time u is_moment m past more e take acts acts' parts parts' here c.did c.state;
         state = by_dispatch s q k n time u is_moment m past more e take acts acts' parts parts' here c.did c.state;

@@ -180,9 +180,9 @@ posters_begin kit n poster mine others lt is rest same =
 pub looper_begins : (s : Script) (hall : Hall) (n : ℕ) (kit : Kit) (parts : Parts) (looping : Looping) (poster : Sender) (last : Round) → IsLooperOf s hall n → IsKitOf s hall (s.threads + n) kit → IsUnusedKit kit
     → poster ≡ get_or kit.posters.items n poster → parts.others.items ≡ remove kit.posters.items n
     → parts.frames ≡ get_or kit.frames.items 0 parts.frames → parts.root.pass ≡ get_or (remove kit.frames.items 0) 0 parts.root.pass
-    → looping.held ≡ record { poster = poster; pass = kit.pass; journal = record { looper = n; acts = [] } } → looping.ended ≡ is_ended last → is_ended last ≡ false
+    → looping.held ≡ record { poster = poster; pass = kit.pass; journal = record { looper = n; acts = [] } } → looping.ended ≡ is_ended last → is_ended last ≡ false → parts.awaits ≡ false
     → IsLooper s hall (record { number = n; sender = s.threads + n; looper = looping; parts = Some parts; last = last })
-looper_begins s hall n kit parts looping poster last l k unused is others frames client held ended going =
+looper_begins s hall n kit parts looping poster last l k unused is others frames client held ended going unawaited =
     let at : slice_get kit.posters.items n ≡ Some poster = slice_get_read kit.posters.items (length kit.posters.items) n poster refl (kit_many s hall n l kit k) is in
     let mine : (q : Shared TableId) → slice_get hall.queues.items n ≡ Some q → badge_of poster ≡ badge_for (s.threads + n) q = λ q at'. at_same badge_of (badge_for (s.threads + n)) kit.posters.items hall.queues.items n poster q k.posters at at' in
     let q = its_queue s hall n l in
@@ -197,6 +197,7 @@ looper_begins s hall n kit parts looping poster last l k unused is others frames
         others = ap (map badge_of) others ∙ (map-remove badge_of kit.posters.items n ∙ ap (λ xs. remove xs n) k.posters);
         frames = λ c at'. first_is frame_badge_of kit.frames.items parts.frames (frame_badge_for s.threads c) (frame_badge_for (s.threads + 1) c) (k.frames ∙ two_frames s hall n l c at') frames;
         client = λ c at'. second_is frame_badge_of kit.frames.items parts.root.pass (frame_badge_for s.threads c) (frame_badge_for (s.threads + 1) c) (k.frames ∙ two_frames s hall n l c at') client;
+        awaits = λ waits. absurd (let wrong : false ≡ true = sym unawaited ∙ waits in cc);
       };
       place = record {
         queue = λ q at'. (

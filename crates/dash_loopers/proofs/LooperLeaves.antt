@@ -36,6 +36,7 @@ none_called parts own = record {
   acts = refl;
   frames = refl;
   root = refl;
+  awaits = refl;
 }
 
 -- ---- one step and another
@@ -54,6 +55,7 @@ calls_then a b c x y z f g = record {
   acts = g.acts ∙ f.acts;
   frames = g.frames ∙ f.frames;
   root = g.root ∙ f.root;
+  awaits = g.awaits ∙ f.awaits;
 }
 
 -- the rule counts changed before
@@ -64,6 +66,7 @@ calls_counted a b c x y all same f = record {
   acts = f.acts;
   frames = f.frames ∙ all.1;
   root = f.root ∙ all.2;
+  awaits = f.awaits ∙ all.4;
 }
 
 -- ---- a step by a host that was made of what was lent

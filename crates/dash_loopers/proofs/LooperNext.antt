@@ -26,7 +26,7 @@ use Rattle.dash_loopers.specs.Played.{AreAlike, StandsBy, ComesBy, HasPlayedBy}
 use Rattle.dash_loopers.specs.Clocked.{AreByClockOf}
 use Rattle.dash_loopers.specs.Looped.{GoesOnFrom, StaysTold, LooksForPulse, HasLooped, HasOnlyLooked}
 use Rattle.dash_loopers.proofs.FrameIds.{turn_grew}
-use Rattle.dash_loopers.proofs.LatestPulses.{turn_keeps_latest}
+use Rattle.dash_loopers.proofs.LatestPulses.{turn_keeps_latest, turn_may_await}
 use Rattle.dash_loopers.proofs.LooperLoops.{plays_then}
 use Rattle.dash_loopers.proofs.LooperKits.{parts_of, others_many, looper_of, looper_with}
 
@@ -36,7 +36,7 @@ pub looper_asked : (s : Script) (hall : Hall) (l : StageLooper) (parts : Parts) 
 looper_asked s hall l parts g r is e asked =
     let are = parts_of s hall l parts is e in
     let badge = frame_turn_badge _ _ _ _ asked.1 in
-    looper_with s hall l (record parts { frames = g }) (record { others = are.others; frames = λ c at. badge ∙ are.frames c at; client = are.client }) is
+    looper_with s hall l (record parts { frames = g }) (record { others = are.others; frames = λ c at. badge ∙ are.frames c at; client = are.client; awaits = turn_may_await parts (record parts { frames = g }) asked.0 asked.0 asked.1 refl refl are.awaits }) is
 
 -- and stands where it stood
 pub played_asked : (s : Script) (l : StageLooper) (parts : Parts) (g : Pass) (r : Option ℕ) → l.parts ≡ Some parts → AskedBy parts.frames g r
@@ -56,7 +56,8 @@ played_asked s l parts g r e asked = λ going text did a come. record {
         whole = λ fs begins law. st.whole fs (prefix_trans parts.frames.view.seen g.view.seen fs grew begins) law;
         ran = ap (λ l. map (as_told false) (asks_in l)) (asked_records parts.frames g r asked) ∙ st.ran;
         settled = st.settled;
-        latest_is = turn_keeps_latest parts.frames g asked.0 asked.0 asked.1 refl a.stamp st.latest_is;
+        latest_is = turn_keeps_latest parts.frames g asked.0 asked.0 asked.1 refl refl a.stamp a.awaits st.latest_is;
+        awaits_is = st.awaits_is;
         played = record { shown = st.played.shown; elsewhere = st.played.elsewhere; fired = st.played.fired; counts = st.played.counts };
       });
 }

@@ -20,7 +20,7 @@ unheard_all p heard seen own = (
 
 -- the rest as it is
 pub rest_self : (r : Rest) → RestHasHeard r r
-rest_self r = record { frames = pass_heard_self r.frames; client = pass_heard_self r.root.pass; root = refl; fired = refl; passed = refl }
+rest_self r = record { frames = pass_heard_self r.frames; client = pass_heard_self r.root.pass; root = refl; fired = refl; passed = refl; awaits = refl }
 
 pub may_self : (o : Option Rest) → MayHaveHeard o o
 may_self o r is = (r, is, rest_self r)
@@ -33,6 +33,7 @@ rest_then x y z f g = record {
   root = g.root ∙ ap (λ (v : ViewRoot). record v { pass = z.root.pass }) f.root;
   fired = g.fired ∙ f.fired;
   passed = g.passed ∙ f.passed;
+  awaits = g.awaits ∙ f.awaits;
 }
 
 pub may_then : (a b c : Option Rest) → MayHaveHeard a b → MayHaveHeard b c → MayHaveHeard a c

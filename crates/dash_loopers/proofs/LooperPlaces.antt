@@ -12,7 +12,7 @@ use Rattle.shared_queue.specs.Known.{Shared, IsOf}
 use Rattle.looper_run.specs.Holding.{Sender, Holding, Workplace, workplace}
 use Rattle.looper_run.specs.Tests.{IsSameLooper}
 use Rattle.looper_run.proofs.Steps.{workplace_same}
-use Rattle.choreographer.specs.Known.{Shared as Frames, Known as Pass, IsOf as IsFrameOf, MayDeliver}
+use Rattle.choreographer.specs.Known.{Shared as Frames, Known as Pass, IsOf as IsFrameOf, MayDeliver, IfAlone}
 use Rattle.dash_hall.specs.declared.hall.Hall.{Hall}
 use Rattle.dash_loopers.specs.declared.player.Parts.{Parts}
 use Rattle.dash_loopers.specs.declared.player.Place.{Place}
@@ -75,13 +75,14 @@ module _ (s : Script) (hall : Hall) (n : ℕ) (l : IsLooperOf s hall n) where
       let same : s.threads ≡ k = cc (both) in
       ap (λ (b : FrameBadge). b.number) badge ∙ same
 
-  -- a new pass has no stamp
-  pub none_latest : (c : Frames) → slice_get hall.choreographers.items n ≡ Some c → (p : Pass) → frame_badge_of p ≡ frame_badge_for s.threads c → p.view.stamp ≡ 0 → HasLatest p 0
-  none_latest c at p badge none = record {
+  -- a new pass has no stamp, and knows of no frame that is to begin
+  pub none_latest : (c : Frames) → slice_get hall.choreographers.items n ≡ Some c → (p : Pass) → frame_badge_of p ≡ frame_badge_for s.threads c → p.view.stamp ≡ 0 → p.view.awaits ≡ 0 → HasLatest p 0 false
+  none_latest c at p badge none unawaited = record {
     key = c.constants;
     constants = ap (λ (b : FrameBadge). b.constants) badge;
     alone = its_pulses c at ∙ ap Some (sym (ap (λ (b : FrameBadge). b.number) badge));
     has = none;
+    waits = unawaited;
   }
 
 -- each edition has the phases up to 3
@@ -93,10 +94,10 @@ up_to_three edition = go (edition == 2)
     go false = omega arith
 
 pub parts_self : (a : Parts) → AreSameParts a a
-parts_self a = record { others = refl; frames = refl; client = refl }
+parts_self a = record { others = refl; frames = refl; client = refl; awaits = λ may. may }
 
 pub parts_then : (a b c : Parts) → AreSameParts a b → AreSameParts b c → AreSameParts a c
-parts_then a b c p q = record { others = q.others ∙ p.others; frames = q.frames ∙ p.frames; client = q.client ∙ p.client }
+parts_then a b c p q = record { others = q.others ∙ p.others; frames = q.frames ∙ p.frames; client = q.client ∙ p.client; awaits = λ may. q.awaits (p.awaits may) }
 
 -- a looper's parts stay its parts where they are the same
 pub are_parts_then : (s : Script) (hall : Hall) (n : ℕ) (a b : Parts) → AreSameParts a b → ArePartsOf s hall n a → ArePartsOf s hall n b
@@ -104,6 +105,7 @@ are_parts_then s hall n a b p h = record {
   others = p.others ∙ h.others;
   frames = λ c at. p.frames ∙ h.frames c at;
   client = λ c at. p.client ∙ h.client c at;
+  awaits = p.awaits h.awaits;
 }
 
 -- the code serves its workplace with the parts that it leaves
@@ -146,11 +148,12 @@ module _ (s : Script) (hall : Hall) (n place j : ℕ) (parts : Parts) (l : IsLoo
   other_of_read p q k at long read = other_of s hall n place j parts p q l are w at (slice_get_read hall.queues.items k place q long (subst (λ (m : ℕ). place < m) (sym long) near) read)
 
 -- the parts are the same with another poster of the same badge
-pub parts_with : (a : Parts) (j : ℕ) (p q : Sender) (b : Parts) → slice_get a.others.items j ≡ Some p → badge_of q ≡ badge_of p → b.others.items ≡ set a.others.items j q → b.frames ≡ a.frames → b.root ≡ a.root → AreSameParts a b
-parts_with a j p q b at e others frames root = record {
+pub parts_with : (a : Parts) (j : ℕ) (p q : Sender) (b : Parts) → slice_get a.others.items j ≡ Some p → badge_of q ≡ badge_of p → b.others.items ≡ set a.others.items j q → b.frames ≡ a.frames → b.root ≡ a.root → b.awaits ≡ a.awaits → AreSameParts a b
+parts_with a j p q b at e others frames root awaits = record {
   others = ap (map badge_of) others ∙ map_set_same badge_of a.others.items j p q at e;
   frames = ap frame_badge_of frames;
   client = ap (λ r. frame_badge_of r.pass) root;
+  awaits = λ may waits. subst (λ (f : Pass). IfAlone f (f.view.awaits ≡ 1)) (sym frames) (may (sym awaits ∙ waits));
 }
 
 -- ---- by the place where its code runs

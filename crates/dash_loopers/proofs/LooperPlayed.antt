@@ -48,9 +48,9 @@ unseen_without xs n within unseen = λ j d near. by_order j d near (cases_lt j n
 -- a looper that has done nothing stands at the first state
 pub stands_first : (s : Script) (q k : ℕ) (seen : List Entry) (acts : List Act) (parts : Parts) → seen ≡ [] → acts ≡ []
     → map standing parts.root.gauges.items ≡ replicate (length s.gauges) (record { value = 0; target = 0; animating = false }) → map fixed parts.root.gauges.items ≡ map (fixed_by s q) s.gauges
-    → parts.root.barrier ≡ None → parts.root.painted.items ≡ [] → parts.root.edition ≡ s.edition → AreUnseen parts.others.items → parts.fired.items ≡ replicate (length s.rules) 0 → parts.root.pass.view.own ≡ [] → parts.root.pass.view.turns ≡ 0 → parts.frames.view.own ≡ [] → HasLatest parts.frames 0
+    → parts.root.barrier ≡ None → parts.root.painted.items ≡ [] → parts.root.edition ≡ s.edition → AreUnseen parts.others.items → parts.fired.items ≡ replicate (length s.rules) 0 → parts.root.pass.view.own ≡ [] → parts.root.pass.view.turns ≡ 0 → parts.frames.view.own ≡ [] → HasLatest parts.frames 0 false → parts.awaits ≡ false
     → Stands s q k seen acts parts (first_looper s)
-stands_first s q k seen acts parts none still gauges lines barrier painted edition unseen fired unasked untaken unrun unpulsed = record {
+stands_first s q k seen acts parts none still gauges lines barrier painted edition unseen fired unasked untaken unrun unpulsed unawaited = record {
   led = λ fs begins law. subst (λ (xs : List Act). Lead s q seen fs (first_looper s) xs (first_looper s)) (sym still) refl;
   place = omega arith;
   moments = λ is fs begins law. refl;
@@ -58,6 +58,7 @@ stands_first s q k seen acts parts none still gauges lines barrier painted editi
   ran = ap (λ l. map (as_told true) (asks_in l)) unrun;
   settled = refl;
   latest_is = unpulsed;
+  awaits_is = unawaited;
   played = subst (λ (es : List Entry). IsPlayed s q (calls_in k es) parts (first_looper s)) (sym none) (record {
     shown = record {
       calls = tt;
@@ -88,6 +89,7 @@ stands_free s q k es acts parts a st = record {
   ran = ap (map (as_told false)) (sym (told_whole (asks_of parts.frames)) ∙ (st.ran ∙ told_whole (asks_to_run a.frames)));
   settled = st.settled;
   latest_is = st.latest_is;
+  awaits_is = st.awaits_is;
   played = st.played;
 }
 

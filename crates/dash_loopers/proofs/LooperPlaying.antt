@@ -1,6 +1,6 @@
 -- In a round a looper goes on from where it stood: what keeps that it has, and what a round leaves of it.
 use Rattle.std.proofs.Common.{◌≡◌, ℕ, ◌≤◌, true, false, List, [], ◌∷◌, ◌++◌, Option, Some, None, refl, sym, ap, ◌∙◌, subst, arith, append_assoc}
-use Rattle.std.specs.Prelude.{◌==◌, Bool, Result, Ok, Err, is_ok, OnOk}
+use Rattle.std.specs.Prelude.{◌==◌, Bool, Result, Ok, Err, is_ok, OnOk, is_some, not, ◌&&◌}
 use Rattle.std.specs.List.{AllByRecursion, Contains}
 use Rattle.std.specs.Option.{IsSomeAnd}
 use Rattle.std.proofs.lemmas.List.{append-nil}
@@ -25,13 +25,16 @@ use Rattle.loop_model.proofs.Prefixes.{prefix_self}
 use Rattle.run_model.specs.Control.{At}
 use Rattle.run_model.specs.FrameRuns.{FrameAt, nanos_of}
 use Rattle.run_model.specs.FrameAsks.{FrameAsk}
-use Rattle.run_model.specs.Loopers.{Looper, Sent, delivered}
+use Rattle.run_model.specs.Loopers.{Looper, Sent, delivered, starts_frame}
 use Rattle.dash_hall.specs.Hosts.{asks_of}
 use Rattle.dash_loopers.specs.declared.player.Parts.{Parts}
 use Rattle.dash_loopers.specs.declared.looper.StageLooper.{StageLooper}
 use Rattle.dash_loopers.specs.Played.{calls_in, calls_of, IsPlayed, Delivers, pulsed, Pulses, pulse_time, Stands, IsTimedBy, HasLooked, IsDueAt, IsPostedBy, GoesOnTo, ComesTo, IsPlaying, HasPlayed}
 use Rattle.dash_loopers.specs.PlayingLaws.{goes_nowhere, comes_on}
 use Rattle.dash_loopers.proofs.LooperStands.{stands_pulse, by_dispatch, sends_dispatch, posts_dispatch, frames_dispatch, stands_dispatch}
+use Rattle.dash_loopers.proofs.PlaySteps.{waits_still}
+use Rattle.std.proofs.Math.Bool.{and-false}
+use Rattle.run_model.specs.Senders.{frame_handler}
 
 -- ---- calls more, and looks more
 
@@ -118,11 +121,16 @@ module _ (s : Script) (q now : ℕ) (began : StageLooper) where
   pub delivers_none : (time : ℕ) (is_moment : ℕ → Bool) (m : PostData) (id : ℕ) (made : List Entry) (parts : Parts) (acts : List Act) → m.callback ≡ Some id → Delivers s q time is_moment m made made parts parts acts acts
   delivers_none time is_moment m id made parts acts callback = record {
     ids = [];
-    ran = record { frame = None; start = 0; started = refl; framed = λ fs begins law. (refl, refl, refl, refl); within = omega arith; grew = prefix_self parts.frames.view.seen; asks = sym (append-nil (asks_of parts.frames)); kept = λ stamp has. has; stamped = λ stamp has fs begins. refl };
+    ran = record { frame = None; start = 0; started = refl; framed = λ fs begins law. (refl, refl, refl, refl); within = omega arith; grew = prefix_self parts.frames.view.seen; asks = sym (append-nil (asks_of parts.frames)); stamped = λ stamp waits has fs begins. refl };
     starts = refl;
+    awaited = refl;
+    waits = waits_still q m parts parts quiet (λ stamp waits has. has) refl;
     plays = λ text a settled played. (subst (IsPlayed s q made parts) (sym (same a settled)) played, sym (ap (λ (l : List Act). acts ++ l) (ap (λ (b : Looper). b.painted) (nothing a) ∙ settled) ∙ append-nil acts));
   }
     where
+      quiet : (parts.awaits && starts_frame q m) ≡ false
+      quiet = ap (λ (o : Option ℕ). parts.awaits && (not (is_some o) && m.handler == frame_handler q && m.what == 0)) callback ∙ and-false parts.awaits
+
       nothing : (a : Looper) → delivered s q time [] m a ≡ a
       nothing a = rw callback refl
 

@@ -1,7 +1,7 @@
 -- Where a looper stands, as entries and acts are added: entries of others, its look that ends the queue, acts that cause
 -- nothing, a pulse, and a dispatch.
 use Rattle.std.proofs.Common.{◌≡◌, ℕ, ◌≤◌, Bool, true, false, List, [], ◌∷◌, ◌++◌, length, Option, Some, None, refl, sym, ap, ◌∙◌, subst, arith, append_assoc, eq-eqb}
-use Rattle.std.specs.Prelude.{◌==◌, ◌+◌, ◌||◌, not, is_some, is_none, map, nat_le, slice_index_or}
+use Rattle.std.specs.Prelude.{◌==◌, ◌+◌, ◌||◌, not, is_some, is_none, map, nat_le, slice_index_or, ◌&&◌}
 use Rattle.std.specs.List.{AllByRecursion, list_all}
 use Rattle.std.specs.Option.{option_map_or}
 use Rattle.std.proofs.lemmas.List.{append-nil, map-append}
@@ -26,7 +26,7 @@ use Rattle.loop_model.proofs.Prefixes.{prefix_trans, prefix_length}
 use Rattle.loop_model.specs.Posts.{post_at}
 use Rattle.run_model.specs.Control.{At}
 use Rattle.run_model.specs.Asks.{Makes, plain, token_in, tokens_in, AreFor}
-use Rattle.run_model.specs.Loopers.{Looper, Sent, first_looper, starts_frame, delivered, and_takes}
+use Rattle.run_model.specs.Loopers.{Looper, Sent, first_looper, starts_frame, delivered, and_takes, and_starts}
 use Rattle.run_model.specs.Acts.{running, dispatched, after_act, MayDispatch, Lead, sent_on, IsSent}
 use Rattle.run_model.specs.FrameRuns.{FrameAt, nanos_of, frame_ids, is_frame_from, has_stamp, place_after, frames_after, is_run_then, are_run_then, is_whole, are_whole}
 use Rattle.run_model.specs.FrameAsks.{FrameAsk, Runs, asks_to_run, as_told}
@@ -50,10 +50,10 @@ calls_taken k n now es e t =
     calls_more k es (e ∷ []) ∙ ap (λ l. calls_in k es ++ l) (let call = t.call in let reply = t.reply in rw (mine, call, reply) refl)
 
 -- a pulse that came
-vsynced : (s : Script) (q : ℕ) (es : List Entry) (fs : List FrameEntry) (acts : List Act) (a : Looper) (stamp : ℕ) → is_pulse s.period stamp ≡ true → comes_after a.stamp stamp ≡ true → a.painted ≡ [] → Lead s q es fs (first_looper s) acts a
+vsynced : (s : Script) (q : ℕ) (es : List Entry) (fs : List FrameEntry) (acts : List Act) (a : Looper) (stamp : ℕ) → is_pulse s.period stamp ≡ true → comes_after a.stamp stamp ≡ true → a.awaits ≡ false → a.painted ≡ [] → Lead s q es fs (first_looper s) acts a
     → Lead s q es fs (first_looper s) (acts ++ Vsync stamp ∷ []) (pulsed q (Some stamp) a)
 unfolding after_act
-vsynced s q es fs acts a stamp is_one later settled lead = Lead-snoc s q es fs None (first_looper s) acts a (Vsync stamp) lead (refl, settled, is_one, later)
+vsynced s q es fs acts a stamp is_one later over settled lead = Lead-snoc s q es fs None (first_looper s) acts a (Vsync stamp) lead (refl, record { painted = settled; awaited = over; pulse = is_one; later = later })
 
 -- ---- what stays as entries and acts are added that cause nothing
 
@@ -64,19 +64,24 @@ module _ {lockstep : Bool} (s : Script) (q k : ℕ) where
   stands_pulse now es more acts acts' parts parts' did a text p st = record {
     led = λ fs begins law.
         subst (λ l. Lead s q (es ++ more) fs (first_looper s) l (pulsed q p.stamp a)) (sym p.told)
-        (by_stamp fs p.stamp p.next.is_pulse (p.next.later a.stamp st.latest_is) (Lead-entries s q es fs more (first_looper s) acts a (st.led fs (prefix_trans parts.frames.view.seen parts'.frames.view.seen fs p.grew begins) law)));
+        (by_stamp fs p.stamp p.next.is_pulse (p.next.later a.stamp a.awaits st.latest_is).0 (p.next.later a.stamp a.awaits st.latest_is).1 (Lead-entries s q es fs more (first_looper s) acts a (st.led fs (prefix_trans parts.frames.view.seen parts'.frames.view.seen fs p.grew begins) law)));
     place = (let at : (pulsed q p.stamp a).place ≡ a.place = placed p.stamp in let le = st.place in let longer = prefix_length parts.frames.view.seen parts'.frames.view.seen p.grew in omega (arith, at, le, longer));
     moments = λ is fs begins law. ap (are_run_then fs) (ran p.stamp) ∙ st.moments is fs (prefix_trans parts.frames.view.seen parts'.frames.view.seen fs p.grew begins) law;
     whole = λ fs begins law. ap (are_whole (phase_count s.edition) fs) (ran p.stamp) ∙ st.whole fs (prefix_trans parts.frames.view.seen parts'.frames.view.seen fs p.grew begins) law;
     ran = ap (map (as_told lockstep)) p.asks ∙ (st.ran ∙ ap (λ (l : List FrameAt). map (as_told lockstep) (asks_to_run l)) (sym (ran p.stamp)));
     settled = painted p.stamp;
-    latest_is = subst (HasLatest parts'.frames) (came p.stamp) (p.next.got a.stamp st.latest_is);
+    latest_is = subst (λ (b : Bool). HasLatest parts'.frames (pulsed q p.stamp a).stamp b) (awaited p.stamp) (subst (λ (n : ℕ). HasLatest parts'.frames n (is_some p.stamp || a.awaits)) (came p.stamp) (p.next.got a.stamp a.awaits st.latest_is));
+    awaits_is = p.next.waits ∙ (ap (λ (b : Bool). is_some p.stamp || b) st.awaits_is ∙ awaited p.stamp);
     played = p.plays text did st.played;
   }
     where
       came : (o : Option ℕ) → latest o a.stamp ≡ (pulsed q o a).stamp
       came None = refl
       came (Some stamp) = refl
+
+      awaited : (o : Option ℕ) → (is_some o || a.awaits) ≡ (pulsed q o a).awaits
+      awaited None = refl
+      awaited (Some stamp) = refl
 
       placed : (o : Option ℕ) → (pulsed q o a).place ≡ a.place
       placed None = refl
@@ -90,15 +95,15 @@ module _ {lockstep : Bool} (s : Script) (q k : ℕ) where
       painted None = st.settled
       painted (Some stamp) = st.settled
 
-      by_stamp : (fs : List FrameEntry) (o : Option ℕ) → is_pulse_if_any s.period o ≡ true → comes_after_if_any a.stamp o ≡ true → Lead s q (es ++ more) fs (first_looper s) acts a → Lead s q (es ++ more) fs (first_looper s) (acts ++ pulse_acts o) (pulsed q o a)
-      by_stamp fs None none later lead = subst (λ l. Lead s q (es ++ more) fs (first_looper s) l a) (sym (append-nil acts)) lead
-      by_stamp fs (Some stamp) is_one later lead = vsynced s q (es ++ more) fs acts a stamp is_one later st.settled lead
+      by_stamp : (fs : List FrameEntry) (o : Option ℕ) → is_pulse_if_any s.period o ≡ true → comes_after_if_any a.stamp o ≡ true → (is_some o && a.awaits) ≡ false → Lead s q (es ++ more) fs (first_looper s) acts a → Lead s q (es ++ more) fs (first_looper s) (acts ++ pulse_acts o) (pulsed q o a)
+      by_stamp fs None none later over lead = subst (λ l. Lead s q (es ++ more) fs (first_looper s) l a) (sym (append-nil acts)) lead
+      by_stamp fs (Some stamp) is_one later over lead = vsynced s q (es ++ more) fs acts a stamp is_one later over st.settled lead
 
 -- ---- a dispatch
 
 -- the state once the message is taken, before what it causes; a frame that it begins is to start at the second moment
-abbrev pub taken : ℕ → ℕ → ℕ → ℕ → Option ℕ → Looper → Looper
-taken q n now u frame a = and_takes q n now (running frame u a)
+abbrev pub taken : ℕ → ℕ → ℕ → ℕ → Option ℕ → PostData → Looper → Looper
+taken q n now u frame m a = and_takes q n now (and_starts q m (running frame u a))
 
 -- the frames so far pass a test, and so does this one, or there is none
 one_more : (test : FrameAt → Bool) (xs : List FrameAt) (frame : Option ℕ) (now : ℕ) → list_all test xs ≡ true → ((place : ℕ) → frame ≡ Some place → test (record { place = place; now = now }) ≡ true) → list_all test (frames_after xs frame now) ≡ true
@@ -134,40 +139,41 @@ sooner fs first later (Some place) le h = and_from (nat_le first place) _ (no_la
 
 -- the acts lead on by a dispatch, with the paints that it makes before it
 leads_dispatch : (s : Script) (q : ℕ) (es : List Entry) (fs : List FrameEntry) (acts ps : List Act) (a : Looper) (ids : List ℕ) (frame : Option ℕ) (n now : ℕ) (route : Route) (m : PostData)
-    → a.painted ≡ [] → Lead s q es fs (first_looper s) acts a → post_at es n ≡ Some m → (not (is_some frame) || starts_frame q m) ≡ true → is_frame_from fs a.place frame ≡ true → has_stamp fs frame a.stamp ≡ true → frame_ids fs frame ≡ ids
-    → ArePaints ps → (delivered s q now ids m (taken q n now now frame a)).painted ≡ ps
-    → Lead s q es fs (first_looper s) ((acts ++ ps) ++ Dispatch n now route ∷ []) (record (delivered s q now ids m (taken q n now now frame a)) { painted = [] })
+    → a.painted ≡ [] → Lead s q es fs (first_looper s) acts a → post_at es n ≡ Some m → (not (is_some frame) || starts_frame q m) ≡ true → (not (is_some frame) || a.awaits) ≡ true → is_frame_from fs a.place frame ≡ true → has_stamp fs frame a.stamp ≡ true → frame_ids fs frame ≡ ids
+    → ArePaints ps → (delivered s q now ids m (taken q n now now frame m a)).painted ≡ ps
+    → Lead s q es fs (first_looper s) ((acts ++ ps) ++ Dispatch n now route ∷ []) (record (delivered s q now ids m (taken q n now now frame m a)) { painted = [] })
 unfolding after_act
-leads_dispatch s q es fs acts ps a ids frame n now route m settled lead post starts from stamped are paints painted =
+leads_dispatch s q es fs acts ps a ids frame n now route m settled lead post starts awaited from stamped are paints painted =
     subst (λ b. Lead s q es fs (first_looper s) ((acts ++ ps) ++ Dispatch n now route ∷ []) b) state (Lead-snoc s q es fs frame (first_looper s) (acts ++ ps) (record a { painted = ps }) (Dispatch n now route) told may)
   where
     told : Lead s q es fs (first_looper s) (acts ++ ps) (record a { painted = ps })
     told = subst (λ l. Lead s q es fs (first_looper s) (acts ++ ps) (record a { painted = l ++ ps })) settled (Lead-paints s q es fs (first_looper s) acts a ps paints lead)
 
-    causes : dispatched s q fs frame n now (record a { painted = ps }) (post_at es n) ≡ delivered s q now ids m (taken q n now now frame a)
-    causes = ap (λ o. dispatched s q fs frame n now (record a { painted = ps }) o) post ∙ ap (λ l. delivered s q now l m (taken q n now now frame a)) are
+    causes : dispatched s q fs frame n now (record a { painted = ps }) (post_at es n) ≡ delivered s q now ids m (taken q n now now frame m a)
+    causes = ap (λ o. dispatched s q fs frame n now (record a { painted = ps }) o) post ∙ ap (λ l. delivered s q now l m (taken q n now now frame m a)) are
 
-    state : record (dispatched s q fs frame n now (record a { painted = ps }) (post_at es n)) { painted = [] } ≡ record (delivered s q now ids m (taken q n now now frame a)) { painted = [] }
+    state : record (dispatched s q fs frame n now (record a { painted = ps }) (post_at es n)) { painted = [] } ≡ record (delivered s q now ids m (taken q n now now frame m a)) { painted = [] }
     state = ap (λ (b : Looper). record b { painted = [] }) causes
 
     may : MayDispatch s q es fs frame (record a { painted = ps }) n now
     may = record {
       accepted = ap is_some post;
       starts = subst (λ o. (not (is_some frame) || option_map_or (starts_frame q) o false) ≡ true) (sym post) starts;
+      awaited = awaited;
       place = from;
       stamped = stamped;
       painted = ap (λ (b : Looper). b.painted) causes ∙ painted;
     }
 
-module _ (s : Script) (q k n now u : ℕ) (es : List Entry) (e : Entry) (take : IsTake k now n e) (parts : Parts) (a : Looper) (settled : a.painted ≡ []) where
+module _ (s : Script) (q k n now u : ℕ) (es : List Entry) (e : Entry) (take : IsTake k now n e) (m : PostData) (parts : Parts) (a : Looper) (settled : a.painted ≡ []) where
   -- the look that took the message is made
-  played_taken : (frame : Option ℕ) → IsPlayed s q (calls_in k es) parts a → IsPlayed s q (calls_in k (es ++ e ∷ [])) parts (taken q n now u frame a)
-  played_taken frame p = subst (λ l. IsPlayed s q l parts (taken q n now u frame a)) (sym (calls_taken k n now es e take)) (record {
+  played_taken : (frame : Option ℕ) → IsPlayed s q (calls_in k es) parts a → IsPlayed s q (calls_in k (es ++ e ∷ [])) parts (taken q n now u frame m a)
+  played_taken frame p = subst (λ l. IsPlayed s q l parts (taken q n now u frame m a)) (sym (calls_taken k n now es e take)) (record {
     shown = record {
       calls = subst (λ l. AreFor IsSent [] l (calls_in k es ++ e ∷ [])) (sym there) (AreFor-snoc IsSent (sent_on q a.sent) look (calls_in k es) e p.shown.calls is_look);
       asked = p.shown.asked;
       turns = p.shown.turns;
-      stands = subst (λ l. IsRootOf s q l (taken q n now u frame a) parts.root) (sym (tokens_more (calls_in k es) e [] (ap token_in take.reply) ∙ append-nil (tokens_in (calls_in k es)))) (record {
+      stands = subst (λ l. IsRootOf s q l (taken q n now u frame m a) parts.root) (sym (tokens_more (calls_in k es) e [] (ap token_in take.reply) ∙ append-nil (tokens_in (calls_in k es)))) (record {
         edition = p.shown.stands.edition;
         gauges = p.shown.stands.gauges;
         lines = p.shown.stands.lines;
@@ -197,16 +203,16 @@ module _ (s : Script) (q k n now u : ℕ) (es : List Entry) (e : Entry) (take : 
 module _ (s : Script) (q k n now u : ℕ) (is_moment : ℕ → Bool) (m : PostData) (es more : List Entry) (e : Entry) (take : IsTake k now n e) (acts acts' : List Act) (parts parts' : Parts) (d : Delivers s q u is_moment m (calls_in k (es ++ e ∷ [])) (calls_in k ((es ++ e ∷ []) ++ more)) parts parts' acts acts') (did a : Looper) where
   -- what the dispatch leads to by its own moment, and what was done at the moment that was read
   abbrev pub by_dispatch : Looper
-  by_dispatch = record (delivered s q now d.ids m (taken q n now now d.ran.frame a)) { painted = [] }
+  by_dispatch = record (delivered s q now d.ids m (taken q n now now d.ran.frame m a)) { painted = [] }
 
   abbrev pub by_reading : Looper
-  by_reading = record (delivered s q u d.ids m (taken q n now u d.ran.frame did)) { painted = [] }
+  by_reading = record (delivered s q u d.ids m (taken q n now u d.ran.frame m did)) { painted = [] }
 
-  adds : AddsAt now (taken q n now now d.ran.frame a) (delivered s q now d.ids m (taken q n now now d.ran.frame a))
-  adds = delivers s q now d.ids m (taken q n now now d.ran.frame a)
+  adds : AddsAt now (taken q n now now d.ran.frame m a) (delivered s q now d.ids m (taken q n now now d.ran.frame m a))
+  adds = delivers s q now d.ids m (taken q n now now d.ran.frame m a)
 
-  adds_read : AddsAt u (taken q n now u d.ran.frame did) (delivered s q u d.ids m (taken q n now u d.ran.frame did))
-  adds_read = delivers s q u d.ids m (taken q n now u d.ran.frame did)
+  adds_read : AddsAt u (taken q n now u d.ran.frame m did) (delivered s q u d.ids m (taken q n now u d.ran.frame m did))
+  adds_read = delivers s q u d.ids m (taken q n now u d.ran.frame m did)
 
   -- its calls come at its moment
   pub sends_dispatch : (more : List Sent) × (by_dispatch.sent ≡ a.sent ++ more) × AllByRecursion (λ x. x.timing ≡ At now) more
@@ -226,7 +232,7 @@ module _ (s : Script) (q k n now u : ℕ) (is_moment : ℕ → Bool) (m : PostDa
       by_frame None is = ([], is ∙ sym (append-nil a.frames), tt)
       by_frame (Some place) is = (record { place = place; now = now } ∷ [], is, (refl, tt))
 
-  pub stands_dispatch : {lockstep : Bool} (route : Route) → (lockstep ≡ true → is_moment ≡ (λ n. n == nanos_of u)) → HasText s → post_at es n ≡ Some m → did.painted ≡ [] → (delivered s q u d.ids m (taken q n now u d.ran.frame did)).painted ≡ (delivered s q now d.ids m (taken q n now now d.ran.frame a)).painted
+  pub stands_dispatch : {lockstep : Bool} (route : Route) → (lockstep ≡ true → is_moment ≡ (λ n. n == nanos_of u)) → HasText s → post_at es n ≡ Some m → did.painted ≡ [] → (delivered s q u d.ids m (taken q n now u d.ran.frame m did)).painted ≡ (delivered s q now d.ids m (taken q n now now d.ran.frame m a)).painted
       → StandsBy lockstep s q k es acts parts did a → StandsBy lockstep s q k ((es ++ e ∷ []) ++ more) (acts' ++ Dispatch n now route ∷ []) parts' by_reading by_dispatch
   stands_dispatch {lockstep} route at text post still alike st = record {
     led = λ fs begins law.
@@ -234,7 +240,7 @@ module _ (s : Script) (q k n now u : ℕ) (is_moment : ℕ → Bool) (m : PostDa
         subst (λ l. Lead s q ((es ++ e ∷ []) ++ more) fs (first_looper s) (l ++ Dispatch n now route ∷ []) by_dispatch) (sym (done.1 ∙ ap (λ (l : List Act). acts ++ l) alike))
         (leads_dispatch s q ((es ++ e ∷ []) ++ more) fs acts _ a d.ids d.ran.frame n now route m st.settled
         (Lead-entries s q (es ++ e ∷ []) fs more (first_looper s) acts a (Lead-entries s q es fs (e ∷ []) (first_looper s) acts a (st.led fs (prefix_trans parts.frames.view.seen parts'.frames.view.seen fs d.ran.grew begins) law)))
-        posts d.starts (sooner fs a.place (length parts.frames.view.seen) d.ran.frame st.place framed.0) (d.ran.stamped a.stamp st.latest_is fs begins) framed.1 (adds.paints tt) refl);
+        posts d.starts (ap (λ (b : Bool). not (is_some d.ran.frame) || b) (sym st.awaits_is) ∙ d.awaited) (sooner fs a.place (length parts.frames.view.seen) d.ran.frame st.place framed.0) (d.ran.stamped a.stamp a.awaits st.latest_is fs begins) framed.1 (adds.paints tt) refl);
     place = (let at = adds.place in let le = st.place in let longer = prefix_length parts.frames.view.seen parts'.frames.view.seen d.ran.grew in placed d.ran.frame by_dispatch.place at le longer d.ran.within);
     moments = λ is fs begins law.
         ap (are_run_then fs) adds_read.frames
@@ -251,12 +257,16 @@ module _ (s : Script) (q k n now u : ℕ) (is_moment : ℕ → Bool) (m : PostDa
         ∙ (ran_told lockstep is_moment u d.ran.start did.frames d.ran.frame at d.ran.started
         ∙ ap (λ (l : List FrameAt). map (as_told lockstep) (asks_to_run l)) (sym adds_read.frames)))));
     settled = refl;
-    latest_is = subst (HasLatest parts'.frames) (sym adds.stamp) (d.ran.kept a.stamp st.latest_is);
+    latest_is = subst (λ (b : Bool). HasLatest parts'.frames by_dispatch.stamp b) awaited (subst (λ (n : ℕ). HasLatest parts'.frames n parts'.awaits) (sym adds.stamp) (d.waits.latest a.stamp (subst (HasLatest parts.frames a.stamp) (sym st.awaits_is) st.latest_is)));
+    awaits_is = awaited;
     played = done.0;
   }
     where
-      done : IsPlayed s q (calls_in k ((es ++ e ∷ []) ++ more)) parts' by_reading × (acts' ≡ acts ++ (delivered s q u d.ids m (taken q n now u d.ran.frame did)).painted)
-      done = d.plays text (taken q n now u d.ran.frame did) refl (played_taken s q k n now u es e take parts did still d.ran.frame st.played)
+      done : IsPlayed s q (calls_in k ((es ++ e ∷ []) ++ more)) parts' by_reading × (acts' ≡ acts ++ (delivered s q u d.ids m (taken q n now u d.ran.frame m did)).painted)
+      done = d.plays text (taken q n now u d.ran.frame m did) refl (played_taken s q k n now u es e take m parts did still d.ran.frame st.played)
+
+      awaited : parts'.awaits ≡ by_dispatch.awaits
+      awaited = d.waits.waits ∙ (ap (λ (b : Bool). b && not (starts_frame q m)) st.awaits_is ∙ sym adds.awaits)
 
       found : post_at es n ≡ Some m
       found = post

@@ -1,4 +1,4 @@
--- What a looper's state gains by a step: calls at the step's moment, callbacks that are due then, and paints, and nothing at its place in the frame record, the frames that it ran or the latest stamp.
+-- What a looper's state gains by a step: calls at the step's moment, callbacks that are due then, and paints, and nothing at its place in the frame record, the frames that it ran or its latest pulse.
 use Rattle.std.proofs.Common.{◌≡◌, ℕ, ◌+◌, ◌-◌, Bool, true, false, List, [], ◌∷◌, ◌++◌, Option, Some, None, refl, sym, ap, ◌∙◌, append_assoc}
 use Rattle.std.specs.Prelude.{◌==◌, ◌||◌, nat_le, is_some, fold, slice_get, if◌then◌else◌}
 use Rattle.std.specs.List.{AllByRecursion, filter_map, cons_option, zip, enumerate_from}
@@ -30,11 +30,12 @@ pub record AddsAt (now : ℕ) (a b : Looper) : Type 0 where
   pub place : b.place ≡ a.place
   pub frames : b.frames ≡ a.frames
   pub stamp : b.stamp ≡ a.stamp
+  pub awaits : b.awaits ≡ a.awaits
   pub paints : ArePaints a.painted → ArePaints b.painted
 
 -- what is alike in calls, callbacks, place, frames and paints
-adds_none : (now : ℕ) (a b : Looper) → b.sent ≡ a.sent → b.posted ≡ a.posted → b.place ≡ a.place → b.frames ≡ a.frames → b.stamp ≡ a.stamp → (ArePaints a.painted → ArePaints b.painted) → AddsAt now a b
-adds_none now a b sent posted place frames stamp paints = record {
+adds_none : (now : ℕ) (a b : Looper) → b.sent ≡ a.sent → b.posted ≡ a.posted → b.place ≡ a.place → b.frames ≡ a.frames → b.stamp ≡ a.stamp → b.awaits ≡ a.awaits → (ArePaints a.painted → ArePaints b.painted) → AddsAt now a b
+adds_none now a b sent posted place frames stamp awaits paints = record {
   more = [];
   sent = sent ∙ sym (append-nil a.sent);
   timed = tt;
@@ -44,11 +45,12 @@ adds_none now a b sent posted place frames stamp paints = record {
   place = place;
   frames = frames;
   stamp = stamp;
+  awaits = awaits;
   paints = paints;
 }
 
-adds_one : (now : ℕ) (a b : Looper) (x : Sent) → b.sent ≡ a.sent ++ x ∷ [] → x.timing ≡ At now → b.posted ≡ a.posted → b.place ≡ a.place → b.frames ≡ a.frames → b.stamp ≡ a.stamp → (ArePaints a.painted → ArePaints b.painted) → AddsAt now a b
-adds_one now a b x sent timed posted place frames stamp paints = record {
+adds_one : (now : ℕ) (a b : Looper) (x : Sent) → b.sent ≡ a.sent ++ x ∷ [] → x.timing ≡ At now → b.posted ≡ a.posted → b.place ≡ a.place → b.frames ≡ a.frames → b.stamp ≡ a.stamp → b.awaits ≡ a.awaits → (ArePaints a.painted → ArePaints b.painted) → AddsAt now a b
+adds_one now a b x sent timed posted place frames stamp awaits paints = record {
   more = x ∷ [];
   sent = sent;
   timed = (timed, tt);
@@ -58,6 +60,7 @@ adds_one now a b x sent timed posted place frames stamp paints = record {
   place = place;
   frames = frames;
   stamp = stamp;
+  awaits = awaits;
   paints = paints;
 }
 
@@ -72,6 +75,7 @@ adds_post now phase id a = record {
   place = refl;
   frames = refl;
   stamp = refl;
+  awaits = refl;
   paints = λ p. p;
 }
 
@@ -86,11 +90,12 @@ adds_then now a b c f g = record {
   place = g.place ∙ f.place;
   frames = g.frames ∙ f.frames;
   stamp = g.stamp ∙ f.stamp;
+  awaits = g.awaits ∙ f.awaits;
   paints = λ p. g.paints (f.paints p);
 }
 
 adds_self : (now : ℕ) (a : Looper) → AddsAt now a a
-adds_self now a = adds_none now a a refl refl refl refl refl (λ p. p)
+adds_self now a = adds_none now a a refl refl refl refl refl refl (λ p. p)
 
 by_test : (now : ℕ) (a x y : Looper) (t : Bool) → AddsAt now a x → AddsAt now a y → AddsAt now a (if t then x else y)
 by_test now a x y true f g = f
@@ -104,14 +109,14 @@ module _ (s : Script) (q now : ℕ) where
   requests : (a : Looper) → AddsAt now a (traversal_requested s q now a)
   requests a =
       let sent : Looper = and_sends q now (Makes (Barrier 0)) (record a { barrier = Some a.barriers; barriers = a.barriers + 1 }) in
-      by_test now a a _ (is_some a.barrier) (adds_self now a) (adds_then now a sent _ (adds_one now a sent _ refl refl refl refl refl refl (λ p. p)) (adds_post now (traversal_phase s) traversal_id sent))
+      by_test now a a _ (is_some a.barrier) (adds_self now a) (adds_then now a sent _ (adds_one now a sent _ refl refl refl refl refl refl refl (λ p. p)) (adds_post now (traversal_phase s) traversal_id sent))
 
   sets : (g target : ℕ) (x : Gauge) (a : Looper) → AddsAt now a (target_set s q now g target x a)
   sets g target x a =
       let changed : Looper = with_gauge g (record { value = x.value; target = target; animating = true }) a in
       let animating : Looper = and_posts_frame now animation_phase (animation_id g) changed in
-      by_test now a _ _ (x.animating || x.value == target) (adds_none now a _ refl refl refl refl refl (λ p. p))
-      (adds_then now a changed _ (adds_none now a changed refl refl refl refl refl (λ p. p)) (adds_then now changed animating _ (adds_post now animation_phase (animation_id g) changed) (requests animating)))
+      by_test now a _ _ (x.animating || x.value == target) (adds_none now a _ refl refl refl refl refl refl (λ p. p))
+      (adds_then now a changed _ (adds_none now a changed refl refl refl refl refl refl (λ p. p)) (adds_then now changed animating _ (adds_post now animation_phase (animation_id g) changed) (requests animating)))
 
   sets_object : (g target : ℕ) (a : Looper) → AddsAt now a (object_set s q now g target a)
   sets_object g target a =
@@ -123,8 +128,8 @@ module _ (s : Script) (q now : ℕ) where
       let there : Looper = with_gauge g (record { value = value; target = x.target; animating = false }) a in
       let nearer : Looper = with_gauge g (record x { value = value }) a in
       by_test now a _ _ (value == x.target)
-      (adds_then now a there _ (adds_none now a there refl refl refl refl refl (λ p. p)) (requests there))
-      (adds_then now a (traversal_requested s q now nearer) _ (adds_then now a nearer _ (adds_none now a nearer refl refl refl refl refl (λ p. p)) (requests nearer)) (adds_post now animation_phase (animation_id g) (traversal_requested s q now nearer)))
+      (adds_then now a there _ (adds_none now a there refl refl refl refl refl refl (λ p. p)) (requests there))
+      (adds_then now a (traversal_requested s q now nearer) _ (adds_then now a nearer _ (adds_none now a nearer refl refl refl refl refl refl (λ p. p)) (requests nearer)) (adds_post now animation_phase (animation_id g) (traversal_requested s q now nearer)))
 
   animates : (g : ℕ) (x : Gauge) (a : Looper) → AddsAt now a (animation_ran s q now g x a)
   animates g x a = by_test now a _ a x.animating (moves g x a) (adds_self now a)
@@ -158,7 +163,7 @@ module _ (s : Script) (q now : ℕ) where
   paints_are gauges = painted_all _ (λ z. one_paint z.0 z.1.value (gauge_looper s z.0 == q)) (enumerate_from 0 gauges)
 
   traverses : (a : Looper) → AddsAt now a (traversal_ran s q now a)
-  traverses a = by_option now a a _ a.barrier (λ k. adds_one now a _ _ refl refl refl refl refl refl (λ p. paints_more a.painted (paints s q a.gauges) p (paints_are a.gauges))) (adds_self now a)
+  traverses a = by_option now a a _ a.barrier (λ k. adds_one now a _ _ refl refl refl refl refl refl refl (λ p. paints_more a.painted (paints s q a.gauges) p (paints_are a.gauges))) (adds_self now a)
 
   runs : (a : Looper) (id : ℕ) → AddsAt now a (callback_ran s q now a id)
   runs a id =
@@ -192,6 +197,7 @@ module _ (s : Script) (q now : ℕ) where
     place = refl;
     frames = refl;
     stamp = refl;
+    awaits = refl;
     paints = λ p. p;
   }
 
@@ -208,4 +214,4 @@ module _ (s : Script) (q now : ℕ) where
 
   -- the look that takes a message
   pub takes : (n : ℕ) (a : Looper) → AddsAt now a (and_takes q n now a)
-  takes n a = adds_one now a _ _ refl refl refl refl refl refl (λ p. p)
+  takes n a = adds_one now a _ _ refl refl refl refl refl refl refl (λ p. p)

@@ -13,7 +13,7 @@ use Rattle.run_model.specs.Planned.{frame_due}
 use Rattle.run_model.specs.Control.{At}
 use Rattle.run_model.specs.FrameAsks.{Posts, as_told}
 use Rattle.run_model.specs.FrameRuns.{place_after, frames_after}
-use Rattle.run_model.specs.Loopers.{Looper, Gauge, and_sends, and_posts_frame, with_gauge, traversal_requested, target_set, object_set, moved, gauge_moved, animation_ran, paints, traversal_ran, callback_ran, fires, reaction, reacted, delivered, and_takes}
+use Rattle.run_model.specs.Loopers.{Looper, Gauge, and_sends, and_posts_frame, with_gauge, traversal_requested, target_set, object_set, moved, gauge_moved, animation_ran, paints, traversal_ran, callback_ran, fires, reaction, reacted, delivered, and_takes, and_starts}
 use Rattle.run_model.specs.Acts.{running}
 use Rattle.dash_loopers.specs.Played.{untimed, unstarted, AreAlike, pulsed}
 
@@ -166,8 +166,8 @@ delivered_alike s q n u ids m a b one h = alike_if (is_some m.callback) a b _ _ 
     by_handler false is = by_object is m.obj refl
 
 -- the look that takes a message, at one moment, for a frame that is to start at either
-pub taken_alike : (q number now n u : ℕ) (frame : Option ℕ) (a b : Looper) → AreAlike a b → AreAlike (and_takes q number now (running frame n a)) (and_takes q number now (running frame u b))
-taken_alike q number now n u frame a b h = record {
+pub taken_alike : (q number now n u : ℕ) (frame : Option ℕ) (m : PostData) (a b : Looper) → AreAlike a b → AreAlike (and_takes q number now (and_starts q m (running frame n a))) (and_takes q number now (and_starts q m (running frame u b)))
+taken_alike q number now n u frame m a b h = record {
   gauges = h.gauges;
   barrier = h.barrier;
   barriers = h.barriers;

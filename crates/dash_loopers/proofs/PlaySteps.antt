@@ -2,7 +2,7 @@
 use Rattle.std.proofs.Common.{◌≡◌, ◌≢◌, ℕ, ◌+◌, ◌-◌, ◌*◌, ◌/◌, ◌<◌, ◌≤◌, ◌==◌, Bool, true, false, not, List, [], ◌∷◌, ◌++◌, map, length, get_or, take, Option, Some, None, Result, Ok, Err, OnOk, refl, sym, ap, ◌∙◌, subst, arith, append_assoc, eq-eqb, ne_eqb}
 use Rattle.std.specs.Prelude.{◌&&◌, ◌||◌, fold, is_some, is_ok, nat_le, slice_get, slice_index_or, if◌then◌else◌}
 use Rattle.std.specs.Option.{option_map_or}
-use Rattle.std.proofs.Math.Bool.{or-true}
+use Rattle.std.proofs.Math.Bool.{or-true, and-false}
 use Rattle.std.proofs.lemmas.Bool.{eqb-true, leb-true}
 use Rattle.std.proofs.lemmas.List.{append-nil, map-append, take_more}
 use Rattle.std.proofs.Math.Nat.{div-mul-le_self}
@@ -41,7 +41,7 @@ use Rattle.choreographer.proofs.Recorded.{pulse_records}
 use Rattle.dash_loopers.specs.declared.view_root.Painted.{Painted}
 use Rattle.dash_loopers.specs.declared.view_root.ViewRoot.{ViewRoot}
 use Rattle.dash_loopers.specs.declared.player.Parts.{Parts}
-use Rattle.dash_loopers.specs.Played.{standing, fixed, IsBarrierOf, IsFrameBy, calls_of, IsShown, IsPlayed, Shows, Plays, RanFrame, Delivers, DeliversPulse, Pulses, pulsed, paint_of, KeepsLatest, IsStampedBy, IsNextPulse}
+use Rattle.dash_loopers.specs.Played.{standing, fixed, IsBarrierOf, IsFrameBy, calls_of, IsShown, IsPlayed, Shows, Plays, RanFrame, Delivers, DeliversPulse, Pulses, pulsed, paint_of, KeepsLatest, IsStampedBy, IsNextPulse, EndsLatest, HasLatest, WaitsFor}
 use Rattle.dash_hall.proofs.FramePosts.{accepted, refused, told_one, told_none}
 use Rattle.dash_loopers.proofs.FrameIds.{turn_grew}
 use Rattle.dash_loopers.proofs.FrameSteps.{FrameShows}
@@ -87,7 +87,7 @@ frame_sent h w host.Refused p p' a b goes isnt sends = told_one h 0 0 w host.Ref
 frame_sent h w host.NoMemory p p' a b goes isnt sends = absurd (isnt refl)
 
 -- what is played says nothing of the latest pulse
-played_pulsed : (s : Script) (q stamp : ℕ) (made : List Entry) (parts : Parts) (a : Looper) → IsPlayed s q made parts a → IsPlayed s q made parts (record a { stamp = stamp })
+played_pulsed : (s : Script) (q stamp : ℕ) (made : List Entry) (parts : Parts) (a : Looper) → IsPlayed s q made parts a → IsPlayed s q made parts (record a { stamp = stamp; awaits = true })
 played_pulsed s q stamp made parts a is =
     let root = is.shown.stands in
     record {
@@ -151,7 +151,7 @@ unless_made No done P Q isnt is h f = absurd (isnt refl)
 unless_made NoMemory done P Q isnt is h f = tt
 
 -- a pulse was told
-pub pulse_told : (s : Script) (q now : ℕ) (made made' : List Entry) (parts parts' : Parts) (acts acts0 acts' : List Act) (pulse : Pulse) → IsNextPulse s.period parts.frames parts'.frames (stamp_in (Some pulse))
+pub pulse_told : (s : Script) (q now : ℕ) (made made' : List Entry) (parts parts' : Parts) (acts acts0 acts' : List Act) (pulse : Pulse) → IsNextPulse s.period parts parts' (stamp_in (Some pulse))
     → DeliversPulse s q now made made' parts parts' (Some pulse) → pulse.sent ≢ host.NoMemory → acts0 ≡ acts → acts' ≡ acts0 ++ Vsync pulse.stamp ∷ [] → Pulses s q now made made' parts parts' acts acts'
 pulse_told s q now made made' parts parts' acts acts0 acts' pulse next delivers isnt same told =
     let done = delivers isnt in
@@ -271,11 +271,12 @@ set_hosted (Err e) s q now now' g target p p0 made' parts parts' shows at same o
 
 -- a frame ran by such a host
 pub frame_hosted : {E : Type 0} (r : Result Unit E) (s : Script) (q now now' interval phases : ℕ) (is_moment is_moment' : ℕ → Bool) (p p0 p' : Sender) (parts parts' : Parts)
-    → OnOk r ((ids : List ℕ) × RanFrame interval phases is_moment' parts.frames parts'.frames ids × FrameShows now' ids p0 parts.root p' parts'.root) → interval ≡ s.period → phases ≡ phase_count s.edition → now' ≡ now → is_moment' ≡ is_moment → p0 ≡ p → parts'.others ≡ parts.others → parts'.fired ≡ parts.fired
-    → OnOk r ((ids : List ℕ) × RanFrame s.period (phase_count s.edition) is_moment parts.frames parts'.frames ids × Plays s q (λ a. fold (callback_ran s q now) a ids) (calls_of p) parts (calls_of p') parts')
-frame_hosted (Ok u) s q now now' interval phases is_moment is_moment' p p0 p' parts parts' (ids, ran, shows) period four at uptime same others fired = (
+    → OnOk r ((ids : List ℕ) × RanFrame interval phases is_moment' parts.frames parts'.frames ids × EndsLatest parts.frames parts'.frames × FrameShows now' ids p0 parts.root p' parts'.root) → interval ≡ s.period → phases ≡ phase_count s.edition → now' ≡ now → is_moment' ≡ is_moment → p0 ≡ p → parts'.others ≡ parts.others → parts'.fired ≡ parts.fired
+    → OnOk r ((ids : List ℕ) × RanFrame s.period (phase_count s.edition) is_moment parts.frames parts'.frames ids × EndsLatest parts.frames parts'.frames × Plays s q (λ a. fold (callback_ran s q now) a ids) (calls_of p) parts (calls_of p') parts')
+frame_hosted (Ok u) s q now now' interval phases is_moment is_moment' p p0 p' parts parts' (ids, ran, ends, shows) period four at uptime same others fired = (
   ids,
   subst (λ (f : ℕ → Bool). RanFrame s.period (phase_count s.edition) f parts.frames parts'.frames ids) uptime (subst (λ (n : ℕ). RanFrame s.period n is_moment' parts.frames parts'.frames ids) four (subst (λ (n : ℕ). RanFrame n phases is_moment' parts.frames parts'.frames ids) period ran)),
+  ends,
   played_shown s q (λ a. fold (callback_ran s q now) a ids) (calls_of p) (calls_of p') parts parts'
       (subst (λ (n : ℕ). Shows s q (λ a. fold (callback_ran s q n) a ids) (calls_of p) parts.root (calls_of p') parts'.root) at (subst (λ (z : Sender). Shows s q (λ a. fold (callback_ran s q now') a ids) (calls_of z) parts.root (calls_of p') parts'.root) same (shows s q)))
       (stays_ran s q now ids) others fired,
@@ -301,8 +302,12 @@ if_other true h x y z a b = absurd (let wrong : true ≡ false = a in cc wrong)
 if_other false true x y z a b = absurd (let wrong : true ≡ false = b in cc wrong)
 if_other false false x y z a b = refl
 
+-- the message of the choreographer that starts a frame
+pub frame_starts : (q : ℕ) (m : PostData) → m.callback ≡ None → m.handler ≡ frame_handler q → m.what ≡ 0 → starts_frame q m ≡ true
+frame_starts q m none mine is = λ i. not (is_some (none i)) && eq-eqb m.handler (frame_handler q) mine i && eq-eqb m.what 0 is i
+
 -- the message of a frame runs its callbacks
-delivered_frame : (s : Script) (q now : ℕ) (ids : List ℕ) (m : PostData) (a : Looper) → starts_frame q m ≡ true → delivered s q now ids m a ≡ fold (callback_ran s q now) a ids
+pub delivered_frame : (s : Script) (q now : ℕ) (ids : List ℕ) (m : PostData) (a : Looper) → starts_frame q m ≡ true → delivered s q now ids m a ≡ fold (callback_ran s q now) a ids
 delivered_frame s q now ids m a is = if_starts (is_some m.callback) (m.handler == frame_handler q) (m.what == 0) a (fold (callback_ran s q now) a ids) _ is
 
 -- another message of the choreographer changes nothing
@@ -319,11 +324,18 @@ pub delivered_plain : (s : Script) (q now : ℕ) (m : PostData) (a : Looper) →
 delivered_plain s q now m a none other nothing =
     if_other (is_some m.callback) (m.handler == frame_handler q) a _ _ (ap is_some none) (ne_eqb m.handler (frame_handler q) other) ∙ ap (λ (o : Option ℕ). option_map_or (λ g. object_set s q now g m.arg a) o (reacted s now m a)) nothing
 
+-- a message starts no frame that is none of the choreographer, or no such message
+pub starts_none : (q : ℕ) (m : PostData) (b : Bool) → m.handler ≢ frame_handler q → (b && starts_frame q m) ≡ false
+starts_none q m b other = ap (λ (h : Bool). b && (not (is_some m.callback) && h && m.what == 0)) (ne_eqb m.handler (frame_handler q) other) ∙ (ap (λ (x : Bool). b && (x && m.what == 0)) (and-false (not (is_some m.callback))) ∙ and-false b)
+
+pub starts_quiet : (q : ℕ) (m : PostData) (b : Bool) → m.what ≢ 0 → (b && starts_frame q m) ≡ false
+starts_quiet q m b isnt = ap (λ (w : Bool). b && (not (is_some m.callback) && m.handler == frame_handler q && w)) (ne_eqb m.what 0 isnt) ∙ (ap (λ (x : Bool). b && x) (and-false (not (is_some m.callback) && m.handler == frame_handler q)) ∙ and-false b)
+
 -- what a frame painted was told, and is painted no more
-pub frame_delivered : (s : Script) (q now : ℕ) (is_moment : ℕ → Bool) (m : PostData) (made made' : List Entry) (parts mid parts' : Parts) (acts acts0 acts' : List Act) (ids : List ℕ) → starts_frame q m ≡ true → RanFrame s.period (phase_count s.edition) is_moment parts.frames mid.frames ids
+pub frame_delivered : (s : Script) (q now : ℕ) (is_moment : ℕ → Bool) (m : PostData) (made made' : List Entry) (parts mid parts' : Parts) (acts acts0 acts' : List Act) (ids : List ℕ) → starts_frame q m ≡ true → parts.awaits ≡ true → parts'.awaits ≡ false → RanFrame s.period (phase_count s.edition) is_moment parts.frames mid.frames ids → EndsLatest parts.frames mid.frames
     → Plays s q (λ a. fold (callback_ran s q now) a ids) made parts made' mid → acts0 ≡ acts → acts' ≡ acts0 ++ map paint_of mid.root.painted.items → parts'.frames ≡ mid.frames → parts'.others ≡ mid.others → parts'.fired ≡ mid.fired
     → parts'.root.gauges ≡ mid.root.gauges → parts'.root.barrier ≡ mid.root.barrier → parts'.root.pass ≡ mid.root.pass → parts'.root.edition ≡ mid.root.edition → parts'.root.painted.items ≡ [] → Delivers s q now is_moment m made made' parts parts' acts acts'
-frame_delivered s q now is_moment m made made' parts mid parts' acts acts0 acts' ids starts ran plays same told frames others fired gauges barrier pass edition none = record {
+frame_delivered s q now is_moment m made made' parts mid parts' acts acts0 acts' ids starts awaited over ran ends plays same told frames others fired gauges barrier pass edition none = record {
   ids = ids;
   ran = record {
     frame = ran.frame;
@@ -333,10 +345,14 @@ frame_delivered s q now is_moment m made made' parts mid parts' acts acts0 acts'
     within = subst (λ (f : Pass). place_after 0 ran.frame ≤ length f.view.seen) (sym frames) ran.within;
     grew = subst (λ (f : Pass). IsPrefix parts.frames.view.seen f.view.seen) (sym frames) ran.grew;
     asks = ap asks_of frames ∙ ran.asks;
-    kept = subst (KeepsLatest parts.frames) (sym frames) ran.kept;
-    stamped = λ stamp has. subst (λ (f : Pass). IsStampedBy f ran.frame stamp) (sym frames) (ran.stamped stamp has);
+    stamped = λ stamp waits has. subst (λ (f : Pass). IsStampedBy f ran.frame stamp) (sym frames) (ran.stamped stamp waits has);
   };
   starts = ap (λ (t : Bool). not (is_some ran.frame) || t) starts ∙ or-true (not (is_some ran.frame));
+  awaited = ap (λ (t : Bool). not (is_some ran.frame) || t) awaited ∙ or-true (not (is_some ran.frame));
+  waits = record {
+    waits = over ∙ sym (ap (λ (t : Bool). parts.awaits && not t) starts ∙ and-false parts.awaits);
+    latest = λ stamp has. subst (λ (b : Bool). HasLatest parts'.frames stamp b) (sym over) (subst (λ (f : Pass). HasLatest f stamp false) (sym frames) (ends stamp (subst (HasLatest parts.frames stamp) awaited has)));
+  };
   plays = λ text a unpainted is. (
       let b : Looper = fold (callback_ran s q now) a ids in
       let done : IsPlayed s q made' mid b = plays text a is in
@@ -365,12 +381,14 @@ frame_delivered s q now is_moment m made made' parts mid parts' acts acts0 acts'
 }
 
 -- a message that begins no frame and paints nothing
-pub step_delivered : (s : Script) (q now : ℕ) (is_moment : ℕ → Bool) (m : PostData) (made made' : List Entry) (parts parts' : Parts) (acts acts' : List Act) (step : Looper → Looper) → IsPrefix parts.frames.view.seen parts'.frames.view.seen → asks_of parts'.frames ≡ asks_of parts.frames → KeepsLatest parts.frames parts'.frames
+pub step_delivered : (s : Script) (q now : ℕ) (is_moment : ℕ → Bool) (m : PostData) (made made' : List Entry) (parts parts' : Parts) (acts acts' : List Act) (step : Looper → Looper) → IsPrefix parts.frames.view.seen parts'.frames.view.seen → asks_of parts'.frames ≡ asks_of parts.frames → WaitsFor q m parts parts'
     → ((a : Looper) → delivered s q now [] m a ≡ step a) → ((a : Looper) → (step a).painted ≡ a.painted) → Plays s q step made parts made' parts' → acts' ≡ acts → Delivers s q now is_moment m made made' parts parts' acts acts'
-step_delivered s q now is_moment m made made' parts parts' acts acts' step grew asks keeps is_step still plays same = record {
+step_delivered s q now is_moment m made made' parts parts' acts acts' step grew asks waits is_step still plays same = record {
   ids = [];
-  ran = record { frame = None; start = 0; started = refl; framed = λ fs begins is. (refl, refl, refl, refl); within = omega arith; grew = grew; asks = asks ∙ sym (append-nil (asks_of parts.frames)); kept = keeps; stamped = λ stamp has fs begins. refl };
+  ran = record { frame = None; start = 0; started = refl; framed = λ fs begins is. (refl, refl, refl, refl); within = omega arith; grew = grew; asks = asks ∙ sym (append-nil (asks_of parts.frames)); stamped = λ stamp w has fs begins. refl };
   starts = refl;
+  awaited = refl;
+  waits = waits;
   plays = λ text a unpainted is. (
       let b : Looper = step a in
       let nothing : b.painted ≡ [] = still a ∙ unpainted in
@@ -380,11 +398,23 @@ step_delivered s q now is_moment m made made' parts parts' acts acts' step grew 
       ));
 }
 
+-- a message that starts no frame leaves what is awaited as it was, and so does one for whose frame no pulse came
+pub waits_still : (q : ℕ) (m : PostData) (parts parts' : Parts) → (parts.awaits && starts_frame q m) ≡ false → KeepsLatest parts.frames parts'.frames → parts'.awaits ≡ parts.awaits → WaitsFor q m parts parts'
+waits_still q m parts parts' isnt keeps same = record {
+  waits = same ∙ sym (kept parts.awaits (starts_frame q m) isnt);
+  latest = λ stamp has. subst (HasLatest parts'.frames stamp) (sym same) (keeps stamp parts.awaits has);
+}
+  where
+    kept : (a b : Bool) → (a && b) ≡ false → (a && not b) ≡ a
+    kept false b isnt = refl
+    kept true false isnt = refl
+    kept true true isnt = absurd (let wrong : true ≡ false = isnt in cc wrong)
+
 -- the same where the pass of frames is as it was
-pub still_delivered : (s : Script) (q now : ℕ) (is_moment : ℕ → Bool) (m : PostData) (made made' : List Entry) (parts parts' : Parts) (acts acts' : List Act) (step : Looper → Looper) → parts'.frames ≡ parts.frames
+pub still_delivered : (s : Script) (q now : ℕ) (is_moment : ℕ → Bool) (m : PostData) (made made' : List Entry) (parts parts' : Parts) (acts acts' : List Act) (step : Looper → Looper) → parts'.frames ≡ parts.frames → parts'.awaits ≡ parts.awaits → (parts.awaits && starts_frame q m) ≡ false
     → ((a : Looper) → delivered s q now [] m a ≡ step a) → ((a : Looper) → (step a).painted ≡ a.painted) → Plays s q step made parts made' parts' → acts' ≡ acts → Delivers s q now is_moment m made made' parts parts' acts acts'
-still_delivered s q now is_moment m made made' parts parts' acts acts' step frames is_step still plays same =
-    step_delivered s q now is_moment m made made' parts parts' acts acts' step (subst (λ (f : Pass). IsPrefix parts.frames.view.seen f.view.seen) (sym frames) (prefix_self parts.frames.view.seen)) (ap asks_of frames) (subst (KeepsLatest parts.frames) (sym frames) (λ stamp has. has)) is_step still plays same
+still_delivered s q now is_moment m made made' parts parts' acts acts' step frames awaits isnt is_step still plays same =
+    step_delivered s q now is_moment m made made' parts parts' acts acts' step (subst (λ (f : Pass). IsPrefix parts.frames.view.seen f.view.seen) (sym frames) (prefix_self parts.frames.view.seen)) (ap asks_of frames) (waits_still q m parts parts' isnt (subst (KeepsLatest parts.frames) (sym frames) (λ stamp w has. has)) awaits) is_step still plays same
 
 -- one paint more was told
 pub painted_more : (acts0 acts : List Act) (ps : List Painted) (i : ℕ) (d : Painted) → i < length ps → acts ≡ acts0 ++ map paint_of (take i ps) → acts ++ paint_of (get_or ps i d) ∷ [] ≡ acts0 ++ map paint_of (take (i + 1) ps)

@@ -25,7 +25,7 @@ use Rattle.looper_run.specs.declared.looper.Round.{Round}
 use Rattle.looper_run.specs.declared.looper.Round.TheVariants as round
 use Rattle.looper_run.specs.declared.by_clock.Loop.{Loop}
 use Rattle.looper_run.specs.declared.by_clock.Loop.TheVariants as loop
-use Rattle.choreographer.specs.Known.{Shared as Frames, Known as Pass}
+use Rattle.choreographer.specs.Known.{Shared as Frames, Known as Pass, IfAlone}
 use Rattle.dash_hall.specs.declared.hall.Hall.{Hall}
 use Rattle.dash_loopers.specs.declared.player.Parts.{Parts}
 use Rattle.dash_loopers.specs.declared.looper.StageLooper.{StageLooper}
@@ -38,11 +38,16 @@ use Rattle.std.specs.Option.{option_map}
 use Rattle.loop_model.specs.Items.{when_of}
 use Rattle.loop_model.specs.Pick.{first_eligible, pick}
 
+-- where the looper awaits a pulse's frame, and its pass alone delivers the pulses, the pass knows of one that is to begin
+abbrev pub MayAwait : Parts → Type 0
+MayAwait parts = parts.awaits ≡ true → IfAlone parts.frames (parts.frames.view.awaits ≡ 1)
+
 -- what a looper has beside its own poster: the posters of the other queues in order, and two passes of its choreographer
 pub record ArePartsOf (s : Script) (hall : Hall) (number : ℕ) (parts : Parts) : Type 0 where
   pub others : map badge_of parts.others.items ≡ remove (map (badge_for (s.threads + number)) hall.queues.items) number
   pub frames : (c : Frames) → slice_get hall.choreographers.items number ≡ Some c → frame_badge_of parts.frames ≡ frame_badge_for s.threads c
   pub client : (c : Frames) → slice_get hall.choreographers.items number ≡ Some c → frame_badge_of parts.root.pass ≡ frame_badge_for (s.threads + 1) c
+  pub awaits : MayAwait parts
 
 -- the workplace is the queue of this looper, and the pool of the hall
 pub record IsPlaceOf (hall : Hall) (number : ℕ) (w : Workplace) : Type 0 where
@@ -164,11 +169,12 @@ pub record Rest : Type 0 where
   pub root : ViewRoot
   pub fired : List ℕ
   pub passed : ℕ
+  pub awaits : Bool
 
 -- the same, where it is there
 abbrev pub rest_in : Option Parts → Option Rest
 rest_in None = None
-rest_in (Some parts) = Some (record { frames = parts.frames; root = parts.root; fired = parts.fired.items; passed = parts.passed })
+rest_in (Some parts) = Some (record { frames = parts.frames; root = parts.root; fired = parts.fired.items; passed = parts.passed; awaits = parts.awaits })
 
 -- the two passes heard others, or are as before, and the rest is as before
 pub record RestHasHeard (before after : Rest) : Type 0 where
@@ -177,6 +183,7 @@ pub record RestHasHeard (before after : Rest) : Type 0 where
   pub root : after.root ≡ record before.root { pass = after.root.pass }
   pub fired : after.fired ≡ before.fired
   pub passed : after.passed ≡ before.passed
+  pub awaits : after.awaits ≡ before.awaits
 
 -- so it is, where the rest is there
 abbrev pub MayHaveHeard : Option Rest → Option Rest → Type 0

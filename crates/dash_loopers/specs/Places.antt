@@ -18,7 +18,9 @@ use Rattle.dash_loopers.specs.declared.player.Parts.{Parts}
 use Rattle.dash_loopers.specs.declared.player.Place.{Place}
 use Rattle.dash_loopers.specs.declared.view_root.ViewRoot.{ViewRoot}
 use Rattle.dash_loopers.specs.Players.{ServesAt}
-use Rattle.dash_loopers.specs.Played.{calls_of, ids_of, standing, fixed, fixed_by, paint_of, RanFrame, Shows, Plays, Delivers, DeliversPulse, Pulses}
+use Rattle.dash_loopers.specs.Played.{calls_of, ids_of, standing, fixed, fixed_by, paint_of, RanFrame, EndsLatest, Shows, Plays, Delivers, DeliversPulse, Pulses}
+use Rattle.choreographer.specs.declared.frame.Framed.{Framed}
+use Rattle.choreographer.specs.declared.frame.Framed.TheVariants as framed
 
 -- the code works at the queue of the place's looper, with what it is lent, and these are the looper's parts
 abbrev pub ServesOn : {R : Type 0} → Place R → Parts → Own → Type 0
@@ -58,10 +60,11 @@ PulsesOn place now own own' parts parts' =
 abbrev pub ShowsOn : {R U : Type 0} → Host R U → Host R U → Script → ℕ → (Looper → Looper) → ViewRoot → ViewRoot → Type 0
 ShowsOn host host' s q step root root' = Shows s q step (calls_of host.poster.now) root (calls_of host'.poster.now) root'
 
--- the frame's callbacks ran, where one began, and the view root's calls tell which
+-- the frame of the latest pulse began, where it wouldn't have gone back, its callbacks ran, and the view root's calls tell which
 abbrev pub RootRuns : {R U : Type 0} → Frames → (ℕ → Bool) → Pass → Pass → Host R U → Host R U → ViewRoot → ViewRoot → Type 0
 RootRuns c is_moment pass pass' host host' root root' = (ids : List ℕ)
     × RanFrame c.constants.interval c.constants.phases is_moment pass pass' ids
+    × EndsLatest pass pass'
     × ((s : Script) (q : ℕ) → ShowsOn host host' s q (λ a. fold (callback_ran s q host.now) a ids) root root')
 
 -- the animation of this gauge ran at this moment, where there is one of this number
@@ -81,3 +84,11 @@ abbrev pub FrameShows : {R U : Type 0} → FrameRun → Host R U → Type 0
 FrameShows run host = (s : Script) (q : ℕ)
     → Shows s q (λ a. fold (callback_ran s q host.now) a (ids_of run.ran.now.items))
     (calls_of run.poster_began.now.value) run.began.now.value (calls_of host.poster.now) run.root.now
+
+-- the frame was run, or would have gone back: so none is to begin any more
+abbrev pub HasEndedWait : Framed → Type 0
+HasEndedWait framed.Done = Unit {0}
+HasEndedWait (framed.Elsewhere next) = ⊥
+HasEndedWait framed.Unscheduled = Unit {0}
+HasEndedWait (framed.Backwards last) = Unit {0}
+HasEndedWait framed.NoMemory = ⊥

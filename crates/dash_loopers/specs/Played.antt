@@ -1,6 +1,6 @@
 -- What a looper has come to, told by what it works with: the calls and the frame callbacks that its acts cause are made, and
 -- its gauges, its barrier and its rule counts stand as its acts lead to.
-use Rattle.std.specs.Prelude.{◌≡◌, ◌≢◌, ◌<◌, ◌≤◌, ◌==◌, ◌||◌, ℕ, Bool, true, false, not, All, List, [], ◌∷◌, ◌++◌, map, length, slice_get, slice_set}
+use Rattle.std.specs.Prelude.{◌≡◌, ◌≢◌, ◌<◌, ◌≤◌, ◌==◌, ◌||◌, ◌&&◌, ℕ, Bool, true, false, not, cond, All, List, [], ◌∷◌, ◌++◌, map, length, slice_get, slice_set}
 use Rattle.std.specs.Prelude.{slice_index_or, Option, Some, None, is_some, is_none, IsSomeAnd, if◌then◌else◌, ◌+◌, ◌/◌}
 use Rattle.std.specs.List.{Contains, list_all}
 use Rattle.std.specs.Option.{option_map_or}
@@ -125,6 +125,7 @@ Plays s q step made parts made' parts' = HasText s → (a : Looper) → IsPlayed
 -- all but the rule counts is as before
 abbrev pub AreAllButCounts : Parts → Parts → Type 0
 AreAllButCounts parts parts' = (parts'.others ≡ parts.others) × (parts'.frames ≡ parts.frames) × (parts'.root ≡ parts.root) × (parts'.passed ≡ parts.passed)
+    × (parts'.awaits ≡ parts.awaits)
 
 -- the count at this place is below the limit, and rises by one, or all is as before
 abbrev pub FiresAt : ℕ → ℕ → Parts → Parts → Bool → Type 0
@@ -154,30 +155,38 @@ abbrev pub moments_of : List FrameEntry → Option ℕ → List ℕ
 moments_of fs None = []
 moments_of fs (Some place) = frame_moments fs place
 
--- the pass alone delivers the pulses of its choreographer, and this is the stamp of the latest one, or 0 before the first
-pub record HasLatest (p : Pass) (stamp : ℕ) : Type 0 where
+-- the pass alone delivers the pulses of its choreographer; this is the stamp of the latest one, or 0 before the first, and so it is whether its frame is to
+-- begin
+pub record HasLatest (p : Pass) (stamp : ℕ) (awaits : Bool) : Type 0 where
   pub key : Constants
   pub constants : p.view.constants ≡ Some key
   pub alone : key.pulses ≡ Some p.number
   pub has : p.view.stamp ≡ stamp
+  pub waits : p.view.awaits ≡ cond awaits 1 0
 
--- whatever the latest pulse was, it is the latest still
+-- whatever the latest pulse was, it is the latest still, and its frame is to begin if it was
 abbrev pub KeepsLatest : Pass → Pass → Type 0
-KeepsLatest before after = (stamp : ℕ) → HasLatest before stamp → HasLatest after stamp
+KeepsLatest before after = (stamp : ℕ) (awaits : Bool) → HasLatest before stamp awaits → HasLatest after stamp awaits
 
--- or the latest is now the one that came, where one came
+-- or the latest is now the one that came, where one came, and its frame is to begin
 abbrev pub GetsLatest : Pass → Pass → Option ℕ → Type 0
-GetsLatest before after came = (stamp : ℕ) → HasLatest before stamp → HasLatest after (latest came stamp)
+GetsLatest before after came = (stamp : ℕ) (awaits : Bool) → HasLatest before stamp awaits → HasLatest after (latest came stamp) (is_some came || awaits)
 
--- whatever the latest pulse was, the one that came comes after it, where one came
+-- whatever the latest pulse was, its frame was to begin, and is no more
+abbrev pub EndsLatest : Pass → Pass → Type 0
+EndsLatest before after = (stamp : ℕ) → HasLatest before stamp true → HasLatest after stamp false
+
+-- whatever the latest pulse was, the one that came comes after it, where one came, and its frame was not to begin any more
 abbrev pub ComesLater : Pass → Option ℕ → Type 0
-ComesLater before came = (stamp : ℕ) → HasLatest before stamp → comes_after_if_any stamp came ≡ true
+ComesLater before came = (stamp : ℕ) (awaits : Bool) → HasLatest before stamp awaits
+    → (comes_after_if_any stamp came ≡ true) × ((is_some came && awaits) ≡ false)
 
--- a pulse of this period came, later than the latest, and is the latest now; or none came
-pub record IsNextPulse (period : ℕ) (before after : Pass) (came : Option ℕ) : Type 0 where
+-- a pulse of this period came, later than the latest, whose frame was not to begin any more, and is the latest now; or none came
+pub record IsNextPulse (period : ℕ) (before after : Parts) (came : Option ℕ) : Type 0 where
   pub is_pulse : is_pulse_if_any period came ≡ true
-  pub later : ComesLater before came
-  pub got : GetsLatest before after came
+  pub later : ComesLater before.frames came
+  pub got : GetsLatest before.frames after.frames came
+  pub waits : after.awaits ≡ (is_some came || before.awaits)
 
 -- by whatever the frame record comes to, a frame that began has this stamp
 abbrev pub IsStampedBy : Pass → Option ℕ → ℕ → Type 0
@@ -196,7 +205,7 @@ asks_for None start = []
 asks_for (Some place) start = Runs start ∷ []
 
 -- callbacks of these identities ran, of a frame whose beginning the pass has seen, or of none, and the pass asked for that frame, by its start, and for nothing
--- else; its moments pass the test, and it began with the stamp of the latest pulse, which is the latest still
+-- else; its moments pass the test, and it began with the stamp of the latest pulse
 pub record RanFrame (interval phases : ℕ) (is_moment : ℕ → Bool) (before after : Pass) (ids : List ℕ) : Type 0 where
   pub frame : Option ℕ
   pub start : ℕ
@@ -205,15 +214,22 @@ pub record RanFrame (interval phases : ℕ) (is_moment : ℕ → Bool) (before a
   pub within : place_after 0 frame ≤ length after.view.seen
   pub grew : IsPrefix before.view.seen after.view.seen
   pub asks : asks_of after ≡ asks_of before ++ asks_for frame start
-  pub kept : KeepsLatest before after
-  pub stamped : (stamp : ℕ) → HasLatest before stamp → IsStampedBy after frame stamp
+  pub stamped : (stamp : ℕ) (awaits : Bool) → HasLatest before stamp awaits → IsStampedBy after frame stamp
 
--- a message was delivered at this moment: its frame, where it began one, ran at moments that pass the test, and what was painted is told
+-- where the message starts a frame, no frame of a pulse is to begin any more; else all is as before
+pub record WaitsFor (q : ℕ) (m : PostData) (parts parts' : Parts) : Type 0 where
+  pub waits : parts'.awaits ≡ (parts.awaits && not (starts_frame q m))
+  pub latest : (stamp : ℕ) → HasLatest parts.frames stamp parts.awaits → HasLatest parts'.frames stamp parts'.awaits
+
+-- a message was delivered at this moment: its frame, where it began one, was that of a pulse that came and ran at moments that pass the test, and what was
+-- painted is told
 pub record Delivers (s : Script) (q now : ℕ) (is_moment : ℕ → Bool) (m : PostData) (made made' : List Entry)
     (parts parts' : Parts) (acts acts' : List Act) : Type 0 where
   pub ids : List ℕ
   pub ran : RanFrame s.period (phase_count s.edition) is_moment parts.frames parts'.frames ids
   pub starts : (not (is_some ran.frame) || starts_frame q m) ≡ true
+  pub awaited : (not (is_some ran.frame) || parts.awaits) ≡ true
+  pub waits : WaitsFor q m parts parts'
   pub plays : HasText s → (a : Looper) → a.painted ≡ [] → IsPlayed s q made parts a
       → IsPlayed s q made' parts' (record (delivered s q now ids m a) { painted = [] }) × (acts' ≡ acts ++ (delivered s q now ids m a).painted)
 
@@ -222,7 +238,7 @@ abbrev pub pulse_acts : Option ℕ → List Act
 pulse_acts None = []
 pulse_acts (Some stamp) = Vsync stamp ∷ []
 
--- what a looper comes to by a pulse: it sends the frame message, and the pulse is the latest
+-- what a looper comes to by a pulse: it sends the frame message, the pulse is the latest, and its frame is to begin
 abbrev pub pulsed : ℕ → Option ℕ → Looper → Looper
 pulsed q None a = a
 pulsed q (Some stamp) a =
@@ -230,6 +246,7 @@ pulsed q (Some stamp) a =
       sent = a.sent
           ++ record { queue = q; ask = Makes (Post (frame_message q 0 0 (stamp / 1000000))); reply = None; timing = NotBefore (millis_up stamp) } ∷ [];
       stamp = stamp;
+      awaits = true;
     }
 
 -- the time in whole milliseconds by which a pulse that came is due
@@ -249,7 +266,7 @@ DeliversPulse s q now made made' parts parts' (Some pulse) =
 -- a pulse of the script's period was delivered and told, or none came, and the looper's own pass asked for nothing
 pub record Pulses (s : Script) (q now : ℕ) (made made' : List Entry) (parts parts' : Parts) (acts acts' : List Act) : Type 0 where
   pub stamp : Option ℕ
-  pub next : IsNextPulse s.period parts.frames parts'.frames stamp
+  pub next : IsNextPulse s.period parts parts' stamp
   pub due : pulse_time stamp ≤ now
   pub told : acts' ≡ acts ++ pulse_acts stamp
   pub grew : IsPrefix parts.frames.view.seen parts'.frames.view.seen
@@ -281,7 +298,7 @@ pub record AreAlike (a b : Looper) : Type 0 where
 
 -- the looper's acts lead to the one state, by whatever its frame record comes to, and all that the other state says is so: each frame that it ran took all
 -- phases, in lockstep at its time, at which it started, and its own pass asked for these frames, as it is told in the mode, in order and for nothing else.
--- The latest pulse of its own pass is that of the acts
+-- The latest pulse of its own pass is that of the acts, and its frame is to begin just where they say so
 pub record StandsBy (lockstep : Bool) (s : Script) (q sender : ℕ) (es : List Entry) (acts : List Act) (parts : Parts) (did a : Looper) : Type 0 where
   pub led : (fs : List FrameEntry) → IsPrefix parts.frames.view.seen fs → lawful s.period (phase_count s.edition) fs ≡ true
       → Lead s q es fs (first_looper s) acts a
@@ -292,7 +309,8 @@ pub record StandsBy (lockstep : Bool) (s : Script) (q sender : ℕ) (es : List E
       → are_whole (phase_count s.edition) fs did.frames ≡ true
   pub ran : map (as_told lockstep) (asks_of parts.frames) ≡ map (as_told lockstep) (asks_to_run did.frames)
   pub settled : a.painted ≡ []
-  pub latest_is : HasLatest parts.frames a.stamp
+  pub latest_is : HasLatest parts.frames a.stamp a.awaits
+  pub awaits_is : parts.awaits ≡ a.awaits
   pub played : IsPlayed s q (calls_in sender es) parts did
 
 -- in lockstep, of one state: each frame that its dispatches ran started at the time of its dispatch

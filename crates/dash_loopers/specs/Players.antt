@@ -7,7 +7,7 @@ use Rattle.dash_loopers.specs.declared.player.Parts.{Parts}
 use Rattle.dash_loopers.specs.declared.looper.StageLooper.{StageLooper}
 use Rattle.dash_loopers.specs.declared.view_root.ViewRoot.{ViewRoot}
 use Rattle.dash_hall.specs.Kits.{FrameBadge, badge_of, frame_badge_of}
-use Rattle.dash_loopers.specs.Loopers.{ArePartsOf, IsPlaceOf, IsLooperOf}
+use Rattle.dash_loopers.specs.Loopers.{ArePartsOf, IsPlaceOf, IsLooperOf, MayAwait}
 
 -- whose code it is: the looper of this number in the hall of the script, in the round at this moment, and the looper as the round began
 pub record Owner : Type 0 where
@@ -23,11 +23,12 @@ pub record ServesAt (s : Script) (hall : Hall) (number : ℕ) (parts : Parts) (w
   pub place : IsPlaceOf hall number w
   pub are_parts : ArePartsOf s hall number parts
 
--- the same posters and passes
+-- the same posters and passes, and where a pulse's frame is awaited, it is one that was awaited or came
 pub record AreSameParts (before after : Parts) : Type 0 where
   pub others : map badge_of after.others.items ≡ map badge_of before.others.items
   pub frames : frame_badge_of after.frames ≡ frame_badge_of before.frames
   pub client : frame_badge_of after.root.pass ≡ frame_badge_of before.root.pass
+  pub awaits : MayAwait before → MayAwait after
 
 -- the first of the other posters, which is that of main's queue, rang its bell once
 abbrev pub RingsMain : Parts → Parts → Type 0

@@ -58,6 +58,7 @@ module _ {lockstep : Bool} (s : Script) (q k : ℕ) where
     ran = st.ran;
     settled = st.settled;
     latest_is = st.latest_is;
+    awaits_is = st.awaits_is;
     played = subst (λ l. IsPlayed s q l parts did) (sym same) st.played;
   }
 
@@ -73,6 +74,7 @@ module _ {lockstep : Bool} (s : Script) (q k : ℕ) where
     ran = st.ran;
     settled = st.settled;
     latest_is = st.latest_is;
+    awaits_is = st.awaits_is;
     played = st.played;
   }
   stands_quiet es (Event f e m) acts parts did a is st = record {
@@ -83,6 +85,7 @@ module _ {lockstep : Bool} (s : Script) (q k : ℕ) where
     ran = st.ran;
     settled = st.settled;
     latest_is = st.latest_is;
+    awaits_is = st.awaits_is;
     played = st.played;
   }
   stands_quiet es (Dispatch n m r) acts parts did a is st = absurd is

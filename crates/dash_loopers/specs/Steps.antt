@@ -57,6 +57,7 @@ pub record OnlyCalls (before after : Parts) (lends lends' : Own) : Type 0 where
   pub acts : lends'.journal.now.acts ≡ lends.journal.now.acts
   pub frames : after.frames ≡ before.frames
   pub root : after.root ≡ before.root
+  pub awaits : after.awaits ≡ before.awaits
 
 -- neither a call was made on the looper's queue nor an act told
 pub record TellsNothing (lends lends' : Own) : Type 0 where
@@ -91,7 +92,7 @@ pub record ShowsBy {R U : Type 0} (c : Frames) (host : Host R U) (root : ViewRoo
   pub pass : IsOf root.pass c × (3 < c.constants.phases)
 
 -- the host and the view root's pass are the same
-pub record KeepsHost {R U : Type 0} (host host' : Host R U) (root root' : ViewRoot) : Type 0 where
+pub record LeavesRoot {R U : Type 0} (host host' : Host R U) (root root' : ViewRoot) : Type 0 where
   pub ready : IsHostNow host'
   pub origin : IsSameHost host host'
   pub pass : frame_badge_of root'.pass ≡ frame_badge_of root.pass

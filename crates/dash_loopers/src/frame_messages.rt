@@ -55,12 +55,12 @@ impl<'a, R: Wait> Place<'a, R> {
         }
     }
 
-    /// Delivers the pulse that is asked for, if it came.
+    /// Delivers the pulse that is asked for, if it came: its frame is to begin.
     fn deliver_pulse(&self, parts: &mut Parts, own: &mut Own, now: u64) -> Option<Pulse>
         requires serves { ServesOn self.now parts.old own.old }
         ensures leaves { Leaves parts.old parts.new own.old own.new }
         ensures untimed { CallsUntimed own.old.poster.now own.new.poster.now parts.old parts.new }
-        ensures next { IsNextPulse self.now.script.now.period parts.old.frames parts.new.frames (stamp_in result) }
+        ensures next { IsNextPulse self.now.script.now.period parts.old parts.new (stamp_in result) }
         ensures pulses { DeliversPulseOn self.now now own.old own.new parts.old parts.new result }
         ensures looked { PulsedOn self.now now own.old own.new parts.old parts.new result }
         ensures acts { own.new.journal.now.acts ≡ own.old.journal.now.acts }
@@ -69,7 +69,9 @@ impl<'a, R: Wait> Place<'a, R> {
         let pass_began = Snapshot::of(&*own.pass);
         let still = Still { now };
         let mut host = self.host(own.poster, own.pass, &began, &pass_began, now, &still);
-        host.deliver(self.choreographer(), &mut parts.frames)
+        let pulse = host.deliver(self.choreographer(), &mut parts.frames);
+        parts.awaits |= pulse.is_some();
+        pulse
     }
 
     /// Delivers the pulse that is asked for, if it came, and tells it.
@@ -90,8 +92,8 @@ impl<'a, R: Wait> Place<'a, R> {
         }
     }
 
-    /// The frame's message begins a frame, where one is scheduled, runs its callbacks, and tells what they painted. The uptime is
-    /// read for its start and for each phase.
+    /// The frame's message begins the frame that is to begin, unless it would go back, runs its callbacks, and tells what they painted. The
+    /// uptime is read for its start and for each phase.
     fn do_frame<U: Uptime>(
         &self,
         parts: &mut Parts,
@@ -99,6 +101,7 @@ impl<'a, R: Wait> Place<'a, R> {
         now: u64,
         uptime: &U,
     ) -> Result<(), NoMemory>
+        requires awaited { parts.old.awaits ≡ true }
         requires serves { ServesOn self.now parts.old own.old }
         ensures leaves { KeepsToQueue now parts.old parts.new own.old own.new }
         ensures delivers { (m : PostData) → starts_frame self.now.looper m ≡ true
@@ -107,6 +110,7 @@ impl<'a, R: Wait> Place<'a, R> {
         let began = Snapshot::of(&*own.poster);
         let pass_began = Snapshot::of(&*own.pass);
         let mut host = self.host(own.poster, own.pass, &began, &pass_began, now, uptime);
+        parts.awaits = false;
         parts
             .root
             .do_frame(self.choreographer(), &mut parts.frames, &mut host)?;
@@ -122,6 +126,7 @@ impl<'a, R: Wait> Place<'a, R> {
         ensures plays { PlaysOn self.now (λ a. a) own.old own.new parts.old parts.new }
         ensures tells { TellsNothing own.old own.new }
         ensures asks { AsksNothing parts.old.frames parts.new.frames }
+        ensures awaits { parts.new.awaits ≡ parts.old.awaits }
         ensures due { phase < phase_count self.now.script.now.edition → IsDueAt now phase parts.old.frames parts.new.frames }
         ensures beyond { phase_count self.now.script.now.edition ≤ phase → parts.new ≡ parts.old }
     {
@@ -149,7 +154,7 @@ impl<'a, R: Wait> Place<'a, R> {
         ensures leaves { KeepsToQueue now parts.old parts.new own.old own.new }
         ensures plays { OnOk result (PlaysOn self.now (object_set self.now.script.now self.now.looper now object target) own.old own.new parts.old parts.new) }
         ensures acts { own.new.journal.now.acts ≡ own.old.journal.now.acts }
-        ensures frames { parts.new.frames ≡ parts.old.frames }
+        ensures frames { (parts.new.frames ≡ parts.old.frames) × (parts.new.awaits ≡ parts.old.awaits) }
     {
         let began = Snapshot::of(&*own.poster);
         let pass_began = Snapshot::of(&*own.pass);
@@ -160,7 +165,8 @@ impl<'a, R: Wait> Place<'a, R> {
             .set_target(self.choreographer(), &mut host, object, target)
     }
 
-    /// A message by the choreographer's handler, which begins a frame or says that a callback came due.
+    /// A message by the choreographer's handler, which begins a frame, where a pulse came whose frame hasn't begun, or says that a callback
+    /// came due.
     pub(crate) fn on_frame<U: Uptime>(
         &self,
         parts: &mut Parts,
@@ -176,7 +182,12 @@ impl<'a, R: Wait> Place<'a, R> {
         ensures delivers { OnOk result (DeliversOn self.now now (U.is_moment uptime.now) p.now own.old own.new parts.old parts.new) }
     {
         match p.what {
-            FRAME_MESSAGE => self.do_frame(parts, own, now, uptime),
+            FRAME_MESSAGE => {
+                if !parts.awaits {
+                    return Ok(());
+                }
+                self.do_frame(parts, own, now, uptime)
+            }
             DUE_MESSAGE => {
                 self.on_due(parts, own, p.arg, now);
                 Ok(())

@@ -1,12 +1,11 @@
 //! The callbacks of one frame.
 ghost use Rattle.std.specs.Prelude.{◌≡◌, ◌<◌, Some, OnOk};
 ghost use Rattle.std.proofs.Common.{subst, sym};
-ghost use Rattle.choreographer.specs.Known.{IsOf};
-ghost use Rattle.choreographer.specs.declared.frame.Framed.TheVariants.{NoMemory as NoRoom};
+ghost use Rattle.choreographer.specs.Known.{IsOf, MayBegin};
 ghost use Rattle.dash_hall.specs.Kits.{frame_badge_of};
-ghost use Rattle.dash_loopers.specs.Places.{FrameShows, RootRuns};
+ghost use Rattle.dash_loopers.specs.Places.{FrameShows, RootRuns, HasEndedWait};
 ghost use Rattle.dash_loopers.specs.Players.{FrameOwner, frame_owner};
-ghost use Rattle.dash_loopers.specs.Steps.{ShowsBy, KeepsHost};
+ghost use Rattle.dash_loopers.specs.Steps.{ShowsBy, LeavesRoot};
 
 use crate::view_root::ViewRoot;
 use choreographer::{Choreographer, ClientRan, FrameClient, FramePass, Framed};
@@ -60,7 +59,7 @@ impl<'a, 'b, R: Wait, U: Uptime> FrameClient<Host<'b, R, U>> for FrameRun<'a> {
 }
 
 impl ViewRoot {
-    /// Begins a frame, where one is scheduled, and runs its callbacks.
+    /// Begins the frame that is to begin, unless it would go back, and runs its callbacks.
     pub(crate) fn do_frame<R: Wait, U: Uptime>(
         &mut self,
         c: &Choreographer,
@@ -69,7 +68,8 @@ impl ViewRoot {
     ) -> Result<(), NoMemory>
         requires by { ShowsBy c.now host.old self.old }
         requires pass { IsOf pass.old c.now }
-        ensures keeps { KeepsHost host.old host.new self.old self.new }
+        requires begins { MayBegin pass.old c.now }
+        ensures keeps { LeavesRoot host.old host.new self.old self.new }
         ensures pass { frame_badge_of pass.new ≡ frame_badge_of pass.old }
         ensures ran { OnOk result (RootRuns c.now (U.is_moment host.old.uptime.now) pass.old pass.new host.old host.new self.old self.new) }
     {
@@ -86,13 +86,13 @@ impl ViewRoot {
     }
 }
 
-/// Ok unless memory was wanting.
+/// Ok where a frame was run or would have gone back. One that is in progress is one that found no memory.
 fn framed(how: Framed) -> Result<(), NoMemory>
-    ensures ok { OnOk result (how ≡ NoRoom → ⊥) }
+    ensures ok { OnOk result (HasEndedWait how) }
 {
     match how {
         Framed::Done => Ok(()),
-        Framed::Elsewhere { .. } => Ok(()),
+        Framed::Elsewhere { .. } => Err(NoMemory),
         Framed::Unscheduled => Ok(()),
         Framed::Backwards { .. } => Ok(()),
         Framed::NoMemory => Err(NoMemory),

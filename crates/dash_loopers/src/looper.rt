@@ -61,6 +61,7 @@ impl StageLooper {
             root: ViewRoot::new(alloc, script, number, client)?,
             fired: vec![in alloc; 0; script.rules.len()]?,
             passed: 0,
+            awaits: false,
         };
         Ok(StageLooper {
             number,
@@ -182,6 +183,7 @@ impl StageLooper {
             root,
             fired: _,
             passed: _,
+            awaits: _,
         } = parts;
         let ViewRoot {
             edition: _,

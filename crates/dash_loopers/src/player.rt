@@ -42,6 +42,8 @@ pub struct Parts {
     pub fired: Vec<u32>,
     /// How often it came to the gate.
     pub passed: u64,
+    /// Whether a pulse came whose frame hasn't begun.
+    pub awaits: bool,
 }
 
 /// Where a looper's code runs.

@@ -8,7 +8,7 @@ ghost use Rattle.dash_script.specs.declared.script.Script.{Script as ScriptData}
 ghost use Rattle.dash_script.specs.Reading.{HasText};
 ghost use Rattle.run_model.specs.Senders.{traversal_phase};
 ghost use Rattle.run_model.specs.Loopers.{object_set, traversal_requested, traversal_ran, callback_ran, and_posts_frame, paints, moved as moved_by};
-ghost use Rattle.dash_loopers.specs.Steps.{ShowsBy, KeepsHost};
+ghost use Rattle.dash_loopers.specs.Steps.{ShowsBy, LeavesRoot};
 
 use choreographer::{Choreographer, FramePass};
 use dash_hall::{Host, Uptime, looper_of};
@@ -104,7 +104,7 @@ impl ViewRoot {
         target: u32,
     ) -> Result<(), NoMemory>
         requires by { ShowsBy c.now host.old self.old }
-        ensures keeps { KeepsHost host.old host.new self.old self.new }
+        ensures keeps { LeavesRoot host.old host.new self.old self.new }
         ensures shows { (s : ScriptData) (q : ℕ) → OnOk result (ShowsOn host.old host.new s q (object_set s q host.old.now gauge target) self.old self.new) }
     {
         let Some(x) = self.gauge(gauge) else {
@@ -165,7 +165,7 @@ impl ViewRoot {
         host: &mut Host<R, U>,
     ) -> Result<(), NoMemory>
         requires by { ShowsBy c.now host.old self.old }
-        ensures keeps { KeepsHost host.old host.new self.old self.new }
+        ensures keeps { LeavesRoot host.old host.new self.old self.new }
         ensures shows { (s : ScriptData) (q : ℕ) → OnOk result (ShowsOn host.old host.new s q (traversal_requested s q host.old.now) self.old self.new) }
     {
         if self.barrier.is_some() {
@@ -185,7 +185,7 @@ impl ViewRoot {
         gauge: u64,
     ) -> Result<(), NoMemory>
         requires by { ShowsBy c.now host.old self.old }
-        ensures keeps { KeepsHost host.old host.new self.old self.new }
+        ensures keeps { LeavesRoot host.old host.new self.old self.new }
         ensures shows { (s : ScriptData) (q : ℕ) → OnOk result (ShowsOn host.old host.new s q (animated s q host.old.now gauge) self.old self.new) }
     {
         let Some(x) = self.gauge(gauge) else {
@@ -214,7 +214,7 @@ impl ViewRoot {
     /// The traversal removes its barrier, and paints each gauge of the looper.
     fn traverse<R: Wait, U: Uptime>(&mut self, host: &mut Host<R, U>) -> Result<(), NoMemory>
         requires { IsHostNow host.old }
-        ensures keeps { KeepsHost host.old host.new self.old self.new }
+        ensures keeps { LeavesRoot host.old host.new self.old self.new }
         ensures shows { (s : ScriptData) (q : ℕ) → OnOk result (ShowsOn host.old host.new s q (traversal_ran s q host.old.now) self.old self.new) }
     {
         let Some(token) = self.barrier else {
@@ -244,7 +244,7 @@ impl ViewRoot {
     ) -> Result<(), NoMemory>
         requires by { ShowsBy c.now host.old self.old }
         requires phase { phase ≤ 3 }
-        ensures keeps { KeepsHost host.old host.new self.old self.new }
+        ensures keeps { LeavesRoot host.old host.new self.old self.new }
         ensures shows { (s : ScriptData) (q : ℕ) → OnOk result (ShowsOn host.old host.new s q (and_posts_frame host.old.now phase id) self.old self.new) }
     {
         host.post_callback(c, &mut self.pass, phase, id, 0)
@@ -258,7 +258,7 @@ impl ViewRoot {
         id: u64,
     ) -> Result<(), NoMemory>
         requires by { ShowsBy c.now host.old self.old }
-        ensures keeps { KeepsHost host.old host.new self.old self.new }
+        ensures keeps { LeavesRoot host.old host.new self.old self.new }
         ensures shows { (s : ScriptData) (q : ℕ) → OnOk result (ShowsOn host.old host.new s q (λ a. callback_ran s q host.old.now a id) self.old self.new) }
     {
         if id == TRAVERSAL_CALLBACK {

@@ -31,7 +31,7 @@ use Rattle.dash_stage.specs.Sharing.{OfKits}
 
 -- kits that were used nowhere
 pub unused_kits : (kits : List Kit) → AreUsedNowhere kits → AreUnusedKits kits
-unused_kits kits h = λ k d lt. record { posters = λ q p below. ((h k q d lt).0 p below).0; sealed = λ q p below. ((h k q d lt).0 p below).1; frames = λ q p below. ((h k q d lt).1 p below).0; turns = λ q p below. ((h k q d lt).1 p below).1; own = λ q p below. ((h k q d lt).1 p below).2; handed = λ q p below. ((h k q d lt).1 p below).3; heard = λ q p below. ((h k q d lt).1 p below).4; stamp = λ q p below. ((h k q d lt).1 p below).5 }
+unused_kits kits h = λ k d lt. record { posters = λ q p below. ((h k q d lt).0 p below).0; sealed = λ q p below. ((h k q d lt).0 p below).1; frames = λ q p below. ((h k q d lt).1 p below).0; turns = λ q p below. ((h k q d lt).1 p below).1; own = λ q p below. ((h k q d lt).1 p below).2; handed = λ q p below. ((h k q d lt).1 p below).3; heard = λ q p below. ((h k q d lt).1 p below).4; stamp = λ q p below. ((h k q d lt).1 p below).5; awaits = λ q p below. ((h k q d lt).1 p below).6 }
 
 pub other_unused : (kits : List Kit) → AreUnusedKits kits → 0 < length kits → AreUnusedKits (remove kits 0)
 other_unused [] h some = absurd (omega (arith, some))

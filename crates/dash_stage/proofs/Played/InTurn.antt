@@ -119,7 +119,7 @@ module _ (s : Script) (st : Stage) (is : IsStage s st) (q : ℕ) (few : q < s.lo
         ∙ slice_get_read choreographers (length choreographers) q c refl in_choreographers (sym (get_or_default choreographers q c (some_of choreographers q in_choreographers) in_choreographers)) in
         let p = looper_parts s st.hall is.hall x one.0 in
         let are : ArePartsOf s st.hall x.number parts = subst (ArePartsOf s st.hall x.number) (same_Some _ _ (sym p.1 ∙ at)) p.2 in
-        let both = heard (record { frames = parts.frames; root = parts.root; fired = parts.fired.items; passed = parts.passed }) (ap rest_in at) in (
+        let both = heard (record { frames = parts.frames; root = parts.root; fired = parts.fired.items; passed = parts.passed; awaits = parts.awaits }) (ap rest_in at) in (
           own_made parts.frames s.threads both.0 (ap (λ (b : FrameBadge). b.number) (are.frames c read)),
           own_made parts.root.pass (s.threads + 1) both.1 (ap (λ (b : FrameBadge). b.number) (are.client c read)),
         )
@@ -177,7 +177,7 @@ module _ (s : Script) (st st' : Stage) (is : IsStage s st) (is' : IsStage s st')
     its_parts' = looper_parts s st'.hall is'.hall after (is'.loopers.1 q its_looper in_after).0
 
     abbrev rest_of : Parts → Rest
-    rest_of p = record { frames = p.frames; root = p.root; fired = p.fired.items; passed = p.passed }
+    rest_of p = record { frames = p.frames; root = p.root; fired = p.fired.items; passed = p.passed; awaits = p.awaits }
 
     heard_on : PassHasHeard its_parts.0.frames its_parts'.0.frames × PassHasHeard its_parts.0.root.pass its_parts'.0.root.pass
     heard_on =

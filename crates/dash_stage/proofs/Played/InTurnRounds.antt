@@ -62,8 +62,8 @@ module _ (s : Script) (text : HasText s) (st st' : Stage) (is : IsStage s st) (i
     one_heard made whole heard all =
         let p = its_parts.0 in
         let there = ap rest_in its_parts.1 in
-        sym (all (record { frames = p.frames; root = p.root; fired = p.fired.items; passed = p.passed }) there).0.1
-        ∙ (heard (record { frames = p.frames; root = p.root; fired = p.fired.items; passed = p.passed }) there).0.1
+        sym (all (record { frames = p.frames; root = p.root; fired = p.fired.items; passed = p.passed; awaits = p.awaits }) there).0.1
+        ∙ (heard (record { frames = p.frames; root = p.root; fired = p.fired.items; passed = p.passed; awaits = p.awaits }) there).0.1
 
     -- what was heard goes on from what was heard before, as the controller's pass tells
     front : (made : List (ℕ × FrameEntry)) → OfItsPasses (HasHeardAll made) before → (was : (whole : List (ℕ × FrameEntry)) × HavePassesHeard q whole st)

@@ -363,8 +363,8 @@ module _ (s : Script) (text : HasText s) (st : Stage) (ls : List StageLooper) (s
     -- a looper that only heard others has asked for nothing
     asks_kept : (p p' : Parts) → ran.parts ≡ Some p → left.parts ≡ Some p' → AskAt st.time p p'
     asks_kept p p' had has =
-        let heard = (kept.each k l in_ran).rest (record { frames = p.frames; root = p.root; fired = p.fired.items; passed = p.passed }) (ap rest_in had) in
-        let is_rest : heard.0 ≡ record { frames = p'.frames; root = p'.root; fired = p'.fired.items; passed = p'.passed } = same_Some _ _ (sym heard.1 ∙ ap rest_in has) in
+        let heard = (kept.each k l in_ran).rest (record { frames = p.frames; root = p.root; fired = p.fired.items; passed = p.passed; awaits = p.awaits }) (ap rest_in had) in
+        let is_rest : heard.0 ≡ record { frames = p'.frames; root = p'.root; fired = p'.fired.items; passed = p'.passed; awaits = p'.awaits } = same_Some _ _ (sym heard.1 ∙ ap rest_in has) in
         ask_nothing st.time p p' (ap (λ (r : Rest). asks_of r.root.pass) (sym is_rest) ∙ ap asks_in heard.2.client.same.own) (ap (λ (r : Rest). asks_of r.frames) (sym is_rest) ∙ ap asks_in heard.2.frames.same.own)
 
     asked_one : PlaysOn s st.time began ran → (p p' : Parts) → began.parts ≡ Some p → left.parts ≡ Some p' → AskAt st.time p p'

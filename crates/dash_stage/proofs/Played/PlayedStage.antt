@@ -82,10 +82,10 @@ shown_heard s q made root root' a heard same st = record {
 
 -- a looper stands where it stood, whatever more it has seen of others
 stands_heard : {lockstep : Bool} (s : Script) (q k : ℕ) (es es' : List Entry) (acts : List Act) (parts parts' : Parts) (did a : Looper) → IsPrefix es es' → calls_in k es' ≡ calls_in k es
-    → PassHasHeard parts.frames parts'.frames → PassHasHeard parts.root.pass parts'.root.pass → parts'.root ≡ record parts.root { pass = parts'.root.pass } → parts'.fired.items ≡ parts.fired.items → length parts'.others.items ≡ length parts.others.items
+    → PassHasHeard parts.frames parts'.frames → PassHasHeard parts.root.pass parts'.root.pass → parts'.root ≡ record parts.root { pass = parts'.root.pass } → parts'.fired.items ≡ parts.fired.items → parts'.awaits ≡ parts.awaits → length parts'.others.items ≡ length parts.others.items
     → ((j : ℕ) (d : Sender) → j < length parts.others.items → own (slice_index_or parts'.others.items j d) ≡ own (slice_index_or parts.others.items j d))
     → StandsBy lockstep s q k es acts parts did a → StandsBy lockstep s q k es' acts parts' did a
-stands_heard {lockstep} s q k es es' acts parts parts' did a more calls frames client root fired long called st = record {
+stands_heard {lockstep} s q k es es' acts parts parts' did a more calls frames client root fired awaits long called st = record {
   led = λ fs begins law.
       subst (λ l. Lead s q l fs (first_looper s) acts a) more.1
       (Lead-entries s q es fs more.0 (first_looper s) acts a (st.led fs (prefix_trans parts.frames.view.seen parts'.frames.view.seen fs frames.seen begins) law));
@@ -99,7 +99,9 @@ stands_heard {lockstep} s q k es es' acts parts parts' did a more calls frames c
     constants = frames.same.constants ∙ was.constants;
     alone = subst (λ n. was.key.pulses ≡ Some n) (sym frames.same.number) was.alone;
     has = frames.same.stamp ∙ was.has;
+    waits = frames.same.awaits ∙ was.waits;
   };
+  awaits_is = awaits ∙ st.awaits_is;
   played = record {
     shown = shown_heard s q (calls_in k es') parts.root parts'.root did client root (subst (λ l. IsShown s q l parts.root did) (sym calls) st.played.shown);
     elsewhere = λ r j d at lt.
@@ -116,7 +118,7 @@ module _ (s : Script) (hall : Hall) (is_hall : IsHall s hall) (l : StageLooper) 
       → IsSomeAnd b.parts (λ parts. StandsBy lockstep s b.number b.sender b.looper.held.poster.view.seen b.looper.held.journal.acts parts did a)
   heard_stands lockstep did a come =
       let p = looper_parts s hall is_hall l is in
-      let r : Rest = record { frames = p.0.frames; root = p.0.root; fired = p.0.fired.items; passed = p.0.passed } in
+      let r : Rest = record { frames = p.0.frames; root = p.0.root; fired = p.0.fired.items; passed = p.0.passed; awaits = p.0.awaits } in
       let told = k.rest r (ap rest_in p.1) in
       let q = with_rest b.parts told.0 told.1 in
       let rest = sym (same_Some _ _ q.2) in
@@ -135,7 +137,7 @@ module _ (s : Script) (hall : Hall) (is_hall : IsHall s hall) (l : StageLooper) 
       let after : StandsBy lockstep s n l.sender b.looper.held.poster.view.seen l.looper.held.journal.acts q.0 did a =
       stands_heard s n l.sender l.looper.held.poster.view.seen b.looper.held.poster.view.seen l.looper.held.journal.acts p.0 q.0 did a heard.more calls
       (subst (λ (z : Rest). PassHasHeard p.0.frames z.frames) rest told.2.frames) (subst (λ (z : Rest). PassHasHeard p.0.root.pass z.root.pass) rest told.2.client)
-      (subst (λ (z : Rest). z.root ≡ record p.0.root { pass = z.root.pass }) rest told.2.root) (subst (λ (z : Rest). z.fired ≡ p.0.fired.items) rest told.2.fired) others.0 others.1 before in
+      (subst (λ (z : Rest). z.root ≡ record p.0.root { pass = z.root.pass }) rest told.2.root) (subst (λ (z : Rest). z.fired ≡ p.0.fired.items) rest told.2.fired) (subst (λ (z : Rest). z.awaits ≡ p.0.awaits) rest told.2.awaits) others.0 others.1 before in
       subst (λ (o : Option Parts). IsSomeAnd o (λ parts. StandsBy lockstep s b.number b.sender b.looper.held.poster.view.seen b.looper.held.journal.acts parts did a)) (sym q.1)
       (subst (λ (m : ℕ). StandsBy lockstep s m b.sender b.looper.held.poster.view.seen b.looper.held.journal.acts q.0 did a) (sym k.number)
       (subst (λ (m : ℕ). StandsBy lockstep s n m b.looper.held.poster.view.seen b.looper.held.journal.acts q.0 did a) (sym k.sender)

@@ -36,6 +36,7 @@ use Rattle.dash_hall.proofs.Hearing.{heard_badges}
 use Rattle.dash_hall.proofs.PassesHearing.{pass_heard_badge}
 use Rattle.dash_loopers.proofs.LooperPasses.{may_self, may_then}
 use Rattle.dash_stage.proofs.Sharing.OneByOne.{of_then}
+use Rattle.choreographer.specs.Known.{IfAlone}
 
 -- one after the other
 pub looper_then : (R S T : List Sender → List Sender → Type 0) → ((a b c : List Sender) → R a b → S b c → T a c) → (x y z : StageLooper) → LooperKeeps R x y → LooperKeeps S y z → LooperKeeps T x z
@@ -200,7 +201,7 @@ module _ (s : Script) (hall : Hall) (is_hall : IsHall s hall) (l : StageLooper) 
     parts_kept : IsSomeAnd b.parts (ArePartsOf s hall b.number)
     parts_kept =
         let p = looper_parts in
-        let r : Rest = record { frames = p.0.frames; root = p.0.root; fired = p.0.fired.items; passed = p.0.passed } in
+        let r : Rest = record { frames = p.0.frames; root = p.0.root; fired = p.0.fired.items; passed = p.0.passed; awaits = p.0.awaits } in
         let heard = k.rest r (ap rest_in p.1) in
         let h = heard.2 in
         let q = with_rest b.parts heard.0 heard.1 in
@@ -209,6 +210,9 @@ module _ (s : Script) (hall : Hall) (is_hall : IsHall s hall) (l : StageLooper) 
           others = ap (λ (o : Option Parts). map badge_of (others_in o)) (sym q.1) ∙ (others_kept ∙ (ap (λ (o : Option Parts). map badge_of (others_in o)) p.1 ∙ p.2.others));
           frames = λ c at. ap (λ (z : Rest). frame_badge_of z.frames) rest ∙ (pass_heard_badge r.frames heard.0.frames h.frames ∙ p.2.frames c at);
           client = λ c at. ap (λ (z : Rest). frame_badge_of z.root.pass) rest ∙ (pass_heard_badge r.root.pass heard.0.root.pass h.client ∙ p.2.client c at);
+          awaits = subst (λ (z : Rest). z.awaits ≡ true → IfAlone z.frames (z.frames.view.awaits ≡ 1)) (sym rest)
+              (λ waits key has named.
+              h.frames.same.awaits ∙ p.2.awaits (sym h.awaits ∙ waits) key (sym h.frames.same.constants ∙ has) (named ∙ ap (λ (n : ℕ). Some n) h.frames.same.number));
         } in
         subst (λ (o : Option Parts). IsSomeAnd o (ArePartsOf s hall b.number)) (sym q.1) (subst (λ (n : ℕ). ArePartsOf s hall n q.0) (sym k.number) are)
 

@@ -12,4 +12,4 @@ pub returns-clause-made : goal.returns-clause-made
 returns-clause-made g c =
     let post = c.args.post in
     frame_made c.post_callback.result _ _ c.args.poster.now c.post_callback.new.self.poster.now _ _ _ _ post.now post.phase c.from-id.result post.id post.delay c.from-id.ensures
-    c.post_callback.ensures.keeps.origin c.post_callback.ensures.keeps.ready c.of-began.ensures (search rules) c.post_callback.ensures.turn
+    c.post_callback.ensures.stays.origin c.post_callback.ensures.stays.ready c.of-began.ensures (search rules) c.post_callback.ensures.turn

@@ -29,8 +29,8 @@ returns-clause-kept c =
     let parts = c.in-Some.parts in
     let is : l.parts ≡ Some parts = cc in
     let whole = c.args.other.now.view.heard in
-    let r : Rest = record { frames = parts.frames; root = parts.root; fired = parts.fired.items; passed = parts.passed } in
-    let r' : Rest = record { frames = c.hear.new.self; root = record parts.root { pass = c.hear-2.new.self }; fired = parts.fired.items; passed = parts.passed } in
+    let r : Rest = record { frames = parts.frames; root = parts.root; fired = parts.fired.items; passed = parts.passed; awaits = parts.awaits } in
+    let r' : Rest = record { frames = c.hear.new.self; root = record parts.root { pass = c.hear-2.new.self }; fired = parts.fired.items; passed = parts.passed; awaits = parts.awaits } in
     let known = c.requires.known r (ap rest_in is) in
     let same = c.hear.ensures.other in
     let first = c.hear.ensures.heard ∙ longer_whole parts.frames.view.heard whole known.0 in
@@ -41,6 +41,7 @@ returns-clause-kept c =
       root = refl;
       fired = refl;
       passed = refl;
+      awaits = refl;
     } in (
       record {
         number = refl;

@@ -46,10 +46,11 @@ returns c =
     let untaken = subst (λ (p : Pass). p.view.turns ≡ 0) (sym second) (unused.turns 1 c.remove-client.result (omega (arith, two))) in
     let unrun = subst (λ (p : Pass). p.view.own ≡ []) (sym c.remove-own_frames.ensures.value) (unused.own 0 c.remove-own_frames.result (omega (arith, two))) in
     let unstamped = subst (λ (p : Pass). p.view.stamp ≡ 0) (sym c.remove-own_frames.ensures.value) (unused.stamp 0 c.remove-own_frames.result (omega (arith, two))) in
+    let unknown = subst (λ (p : Pass). p.view.awaits ≡ 0) (sym c.remove-own_frames.ensures.value) (unused.awaits 0 c.remove-own_frames.result (omega (arith, two))) in
     let frames = its_frames s hall c.args.number of in
     let unpulsed = none_latest s hall c.args.number of frames.0 frames.1 c.remove-own_frames.result
     (first_is frame_badge_of ps c.remove-own_frames.result (frame_badge_for s.threads frames.0) (frame_badge_for (s.threads + 1) frames.0)
-    (c.requires.kit.frames ∙ two_frames s hall c.args.number of frames.0 frames.1) c.remove-own_frames.ensures.value) unstamped in
+    (c.requires.kit.frames ∙ two_frames s hall c.args.number of frames.0 frames.1) c.remove-own_frames.ensures.value) unstamped unknown in
     let none = subst (λ (p : Sender). p.view.seen ≡ []) (sym c.remove-poster.ensures.value) (unused.posters c.args.number c.remove-poster.result many) in
     let unheard_at : (i : ℕ) (p : Pass) → i < 2 → p ≡ get_or ps i p → HasHeardAll [] p = λ i p lt e.
     subst (HasHeardAll []) (sym e) (unheard_all (get_or ps i p) (unused.heard i p (omega (arith, two, lt))) (unused.frames i p (omega (arith, two, lt))) (unused.own i p (omega (arith, two, lt)))) in
@@ -58,7 +59,7 @@ returns c =
         looper = looper_begins s hall c.args.number kit _ c.make.result c.remove-poster.result _ of c.requires.kit unused
             c.remove-poster.ensures.value c.remove-poster.ensures.items c.remove-own_frames.ensures.value
             (subst (λ (p : Pass). p ≡ get_or (remove ps 0) 0 p) (sym c.in_ok-new.ensures.pass) behind)
-            held c.make.ensures.flags.1 refl;
+            held c.make.ensures.flags.1 refl refl;
         number_is = refl;
         posters = posters_begin kit c.args.number c.remove-poster.result c.make.result.held.poster c.remove-poster.new.self.items many
             c.remove-poster.ensures.value c.remove-poster.ensures.items (ap (λ (h : Holding). h.poster) held);
@@ -67,7 +68,7 @@ returns c =
             c.in_ok-new.ensures.still c.in_ok-new.ensures.gauges c.in_ok-new.ensures.rest.0 c.in_ok-new.ensures.rest.1 c.in_ok-new.ensures.rest.2
             (subst AreUnseen (sym c.remove-poster.ensures.items) (unseen_without kit.posters.items c.args.number many unused.posters))
             (c.in_ok-vec.ensures.items_if_clones_equal (λ y same. same) ∙ ap (λ (n : ℕ). replicate n 0) c.len.ensures)
-            (ap (λ (p : Pass). p.view.own) c.in_ok-new.ensures.pass ∙ unasked) (ap (λ (p : Pass). p.view.turns) c.in_ok-new.ensures.pass ∙ untaken) unrun unpulsed;
+            (ap (λ (p : Pass). p.view.own) c.in_ok-new.ensures.pass ∙ unasked) (ap (λ (p : Pass). p.view.turns) c.in_ok-new.ensures.pass ∙ untaken) unrun unpulsed refl;
         nothing = record { acts = ap (λ (h : Holding). h.journal.acts) held; idle_owed = c.make.ensures.flags.0; pass = ap (λ (h : Holding). h.pass) held };
         unheard = λ r is. subst (λ (z : Rest). HasHeardAll [] z.frames × HasHeardAll [] z.root.pass) (same_Some _ _ is) (
           unheard_at 0 c.remove-own_frames.result (omega arith) c.remove-own_frames.ensures.value,

@@ -26,7 +26,7 @@ returns-clause-kept c =
     let l = c.args.self.now in
     let parts = c.in-Some.parts in
     let is : l.parts ≡ Some parts = cc in
-    let rest = (λ i. Some (record { frames = c.hear.ensures.other i; root = record parts.root { pass = c.hear-2.ensures.other i }; fired = parts.fired.items; passed = parts.passed })) ∙ sym (ap rest_in is) in (
+    let rest = (λ i. Some (record { frames = c.hear.ensures.other i; root = record parts.root { pass = c.hear-2.ensures.other i }; fired = parts.fired.items; passed = parts.passed; awaits = parts.awaits })) ∙ sym (ap rest_in is) in (
       record {
         number = refl;
         sender = refl;

@@ -4,7 +4,7 @@ use Rattle.handler_post.specs.declared.handler.Handler.{Handler}
 use Rattle.run_model.specs.Senders.{frame_handler}
 use Rattle.run_model.specs.Loopers.{object_set, reacted}
 use Rattle.dash_loopers.specs.Played.{calls_of}
-use Rattle.dash_loopers.proofs.PlaySteps.{delivered_object, delivered_plain, object_painted, still_delivered}
+use Rattle.dash_loopers.proofs.PlaySteps.{delivered_object, delivered_plain, object_painted, still_delivered, starts_none}
 use Rattle.dash_loopers.proofs.LooperClock.{rules_not_frame, rules_not_object, rules_plain, delivers_nothing_at, delivers_timed, delivers_untimed}
 use Rattle.dash_loopers.proofs.player.Place.deliver.Goals as goal
 use Rattle.dash_loopers.proofs.LooperLeaves.{all_left}
@@ -22,7 +22,7 @@ returns-in-Some-clause-delivers g c =
     let own = c.set_target.new.own in
     let mine : c.frame_handler.result.id ≡ frame_handler q = ap (λ (h : Handler). h.id) c.frame_handler.ensures in
     on_ok c.set_target.result _ _ c.set_target.ensures.plays (λ plays.
-    still_delivered s q now (g.U.Uptime.is_moment c.args.uptime.now) m (calls_of old.poster.now) (calls_of own.poster.now) c.args.parts.now c.set_target.new.parts old.journal.now.acts own.journal.now.acts (object_set s q now c.in-Some.object m.arg) c.set_target.ensures.frames
+    still_delivered s q now (g.U.Uptime.is_moment c.args.uptime.now) m (calls_of old.poster.now) (calls_of own.poster.now) c.args.parts.now c.set_target.new.parts old.journal.now.acts own.journal.now.acts (object_set s q now c.in-Some.object m.arg) c.set_target.ensures.frames.0 c.set_target.ensures.frames.1 (starts_none q m c.args.parts.now.awaits (λ e. c.if-p-frame_handler.false (e ∙ sym mine)))
     (λ a. delivered_object s q now m c.in-Some.object a c.requires.callback (λ e. c.if-p-frame_handler.false (e ∙ sym mine)) c.in-Some.is) (λ a. object_painted s q now c.in-Some.object m.arg a) plays c.set_target.ensures.acts)
 
 pub returns-in-None-clause-delivers : goal.returns-in-None-clause-delivers
@@ -35,7 +35,7 @@ returns-in-None-clause-delivers g c =
     let own = c.react.new.own in
     let mine : c.frame_handler.result.id ≡ frame_handler q = ap (λ (h : Handler). h.id) c.frame_handler.ensures in
     on_ok c.react.result _ _ c.react.ensures.plays (λ plays.
-    still_delivered s q now (g.U.Uptime.is_moment c.args.uptime.now) m (calls_of old.poster.now) (calls_of own.poster.now) c.args.parts.now c.react.new.parts old.journal.now.acts own.journal.now.acts (reacted s now m) c.react.ensures.calls.frames
+    still_delivered s q now (g.U.Uptime.is_moment c.args.uptime.now) m (calls_of old.poster.now) (calls_of own.poster.now) c.args.parts.now c.react.new.parts old.journal.now.acts own.journal.now.acts (reacted s now m) c.react.ensures.calls.frames c.react.ensures.calls.awaits (starts_none q m c.args.parts.now.awaits (λ e. c.if-p-frame_handler.false (e ∙ sym mine)))
     (λ a. delivered_plain s q now m a c.requires.callback (λ e. c.if-p-frame_handler.false (e ∙ sym mine)) c.in-None.is) (λ a. refl) plays c.react.ensures.calls.acts)
 
 pub returns-then-is_stopped-clause-clocked : goal.returns-then-is_stopped-clause-clocked

@@ -29,4 +29,5 @@ returns-then-looper-self-clause-calls g c =
       acts = c.send_own.ensures.acts;
       frames = refl;
       root = refl;
+      awaits = refl;
     }

@@ -46,7 +46,7 @@ returns-clause-calls g c =
     let near : c.args.looper < length hall.queues.items = omega (arith, hall.queues.ok.0) in
     let at = other_read place.script.now hall place.looper c.args.looper c.place_without.result parts c.requires.serves.looper c.requires.serves.are_parts near c.place_without.ensures parts.others.len c.index_mut-poster.result.now (omega (arith, parts.others.ok.0)) c.index_mut-poster.ensures.value in
     record {
-      leaves = record { parts = parts_with parts c.place_without.result c.index_mut-poster.result.now c.send_by.new.poster _ at c.send_by.ensures.poster refl refl refl; own = c.send_by.ensures.leaves };
+      leaves = record { parts = parts_with parts c.place_without.result c.index_mut-poster.result.now c.send_by.new.poster _ at c.send_by.ensures.poster refl refl refl refl; own = c.send_by.ensures.leaves };
       untimed = record {
         own = untimed_self c.args.own.now.poster.now c.send_by.new.own.poster.now c.send_by.ensures.seen;
         others = untimed_put parts.others.items c.place_without.result c.index_mut-poster.result.now c.send_by.new.poster at (ap (λ (b : Badge). b.sender) c.send_by.ensures.poster) c.send_by.ensures.untimed;
@@ -54,6 +54,7 @@ returns-clause-calls g c =
       acts = c.send_by.ensures.acts;
       frames = refl;
       root = refl;
+      awaits = refl;
     }
 
 pub returns-then-place-len-clause-plays : goal.returns-then-place-len-clause-plays

@@ -19,4 +19,4 @@ returns-clause-leaves g c =
     let own = c.args.own.now in
     let keeps = c.set_target.ensures.keeps in
     keeps_hosted c.args.self.now.looper c.args.now _ own.poster.now own.pass.now _ _ c.host-host.result c.set_target.new.host c.host-host.ensures.host keeps.ready keeps.origin
-    c.args.parts.now _ own _ refl refl refl refl (record { poster = refl; pass = refl; journal = refl }) (tells_none own.journal.now) (record { others = refl; frames = refl; client = keeps.pass }) refl
+    c.args.parts.now _ own _ refl refl refl refl (record { poster = refl; pass = refl; journal = refl }) (tells_none own.journal.now) (record { others = refl; frames = refl; client = keeps.pass; awaits = λ may. may }) refl
