@@ -21,7 +21,7 @@ use Rattle.run_model.specs.Senders.{frame_handler, gauge_looper, gauge_line, ani
 use Rattle.run_model.specs.Planned.{frame_message}
 use Rattle.run_model.specs.Control.{At, NotBefore}
 use Rattle.loop_model.specs.Posts.{post_at}
-use Rattle.run_model.specs.Loopers.{Looper, Sent, Gauge, and_sends, moved, paints, traversal_requested, target_set, object_set, gauge_moved, animation_ran, traversal_ran, callback_ran, fires, reaction, reacted, delivered, and_takes, and_posts_frame, with_gauge}
+use Rattle.run_model.specs.Loopers.{Looper, Sent, Gauge, and_sends, moved, paints, traversal_requested, target_set, object_set, gauge_moved, animation_ran, traversal_ran, callback_ran, fires, reaction, reacted, delivered, and_takes, and_posts_frame, with_gauge, and_starts}
 use Rattle.run_model.specs.Acts.{millis_up, running, dispatched, after_act, Lead, sent_on, IsSent}
 use Rattle.run_model.specs.FrameRuns.{frame_ids}
 use Rattle.dash_loopers.specs.Loopers.{is_disposal}
@@ -154,7 +154,7 @@ module _ (s : Script) (q : ℕ) where
     dispatched_kept : (frame : Option ℕ) (n now : ℕ) (a : Looper) (o : Option PostData) → LooksAtOwn a → LooksAtOwn (dispatched s q fs frame n now a o)
     dispatched_kept frame n now a None h = h
     dispatched_kept frame n now a (Some m) h =
-        delivered_kept now (frame_ids fs frame) m (and_takes q n now (running frame now a)) (takes_kept now n (running frame now a) h)
+        delivered_kept now (frame_ids fs frame) m (and_takes q n now (and_starts q m (running frame now a))) (takes_kept now n (and_starts q m (running frame now a)) h)
 
     act_kept : (frame : Option ℕ) (a : Looper) (x : Act) → LooksAtOwn a → LooksAtOwn (after_act s q es fs frame a x)
     unfolding after_act
