@@ -85,7 +85,7 @@ FrameShows run host = (s : Script) (q : ℕ)
     → Shows s q (λ a. fold (callback_ran s q host.now) a (ids_of run.ran.now.items))
     (calls_of run.poster_began.now.value) run.began.now.value (calls_of host.poster.now) run.root.now
 
--- the frame was run, or would have gone back: so none is to begin any more
+-- the frame was run, or would have gone back, or none was scheduled: so none is to begin any more
 abbrev pub HasEndedWait : Framed → Type 0
 HasEndedWait framed.Done = Unit {0}
 HasEndedWait (framed.Elsewhere next) = ⊥

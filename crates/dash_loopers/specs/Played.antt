@@ -172,7 +172,7 @@ KeepsLatest before after = (stamp : ℕ) (awaits : Bool) → HasLatest before st
 abbrev pub GetsLatest : Pass → Pass → Option ℕ → Type 0
 GetsLatest before after came = (stamp : ℕ) (awaits : Bool) → HasLatest before stamp awaits → HasLatest after (latest came stamp) (is_some came || awaits)
 
--- whatever the latest pulse was, its frame was to begin, and is no more
+-- whatever the latest pulse was, where its frame was to begin it is to begin no more
 abbrev pub EndsLatest : Pass → Pass → Type 0
 EndsLatest before after = (stamp : ℕ) → HasLatest before stamp true → HasLatest after stamp false
 
@@ -181,7 +181,8 @@ abbrev pub ComesLater : Pass → Option ℕ → Type 0
 ComesLater before came = (stamp : ℕ) (awaits : Bool) → HasLatest before stamp awaits
     → (comes_after_if_any stamp came ≡ true) × ((is_some came && awaits) ≡ false)
 
--- a pulse of this period came, later than the latest, whose frame was not to begin any more, and is the latest now; or none came
+-- a pulse of this period came, later than the latest, whose frame was not to begin any more, and is the latest now; or none came. The looper awaits its frame
+-- where one came, and else as before
 pub record IsNextPulse (period : ℕ) (before after : Parts) (came : Option ℕ) : Type 0 where
   pub is_pulse : is_pulse_if_any period came ≡ true
   pub later : ComesLater before.frames came

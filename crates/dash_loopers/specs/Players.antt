@@ -23,7 +23,7 @@ pub record ServesAt (s : Script) (hall : Hall) (number : ℕ) (parts : Parts) (w
   pub place : IsPlaceOf hall number w
   pub are_parts : ArePartsOf s hall number parts
 
--- the same posters and passes, and where a pulse's frame is awaited, it is one that was awaited or came
+-- the same posters and passes; and where the looper awaits a pulse's frame afterwards its pass knows of it, if so it was before
 pub record AreSameParts (before after : Parts) : Type 0 where
   pub others : map badge_of after.others.items ≡ map badge_of before.others.items
   pub frames : frame_badge_of after.frames ≡ frame_badge_of before.frames

@@ -50,7 +50,7 @@ pub record KeepsToQueue (now : ℕ) (before after : Parts) (lends lends' : Own) 
   pub clocked : AddsAt now lends.poster.now lends'.poster.now
   pub others : after.others ≡ before.others
 
--- so it is of both queues that were called and those that weren't: no call has a moment of its own; no act was told, and frames and gauges are as before
+-- what was lent and the parts are left so, and no call on any queue has a moment of its own; no act was told, and frames and gauges are as before
 pub record OnlyCalls (before after : Parts) (lends lends' : Own) : Type 0 where
   pub leaves : Leaves before after lends lends'
   pub untimed : CallsUntimed lends.poster.now lends'.poster.now before after
@@ -64,7 +64,7 @@ pub record TellsNothing (lends lends' : Own) : Type 0 where
   pub calls : calls_of lends'.poster.now ≡ calls_of lends.poster.now
   pub acts : lends'.journal.now.acts ≡ lends.journal.now.acts
 
--- the pass has seen all that it had, asked for nothing more, and its latest pulse is the latest still
+-- the pass has seen all that it had, asked for nothing more, and its latest pulse is the latest still, its frame to begin or not as before
 pub record AsksNothing (before after : Pass) : Type 0 where
   pub seen : IsPrefix before.view.seen after.view.seen
   pub asks : asks_of after ≡ asks_of before

@@ -165,8 +165,8 @@ impl<'a, R: Wait> Place<'a, R> {
             .set_target(self.choreographer(), &mut host, object, target)
     }
 
-    /// A message by the choreographer's handler, which begins a frame, where a pulse came whose frame hasn't begun, or says that a callback
-    /// came due.
+    /// A message by the choreographer's handler, which begins a frame, where a pulse came whose frame has neither begun nor would have
+    /// gone back, or says that a callback came due.
     pub(crate) fn on_frame<U: Uptime>(
         &self,
         parts: &mut Parts,

@@ -86,7 +86,7 @@ impl ViewRoot {
     }
 }
 
-/// Ok where a frame was run or would have gone back. One that is in progress is one that found no memory.
+/// Ok where a frame was run or would have gone back, or none was scheduled. One that is in progress is one that found no memory.
 fn framed(how: Framed) -> Result<(), NoMemory>
     ensures ok { OnOk result (HasEndedWait how) }
 {

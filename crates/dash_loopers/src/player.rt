@@ -42,7 +42,7 @@ pub struct Parts {
     pub fired: Vec<u32>,
     /// How often it came to the gate.
     pub passed: u64,
-    /// Whether a pulse came whose frame hasn't begun.
+    /// Whether a pulse came whose frame has neither begun nor would have gone back.
     pub awaits: bool,
 }
 

@@ -24,7 +24,8 @@ use Rattle.dash_script.specs.declared.form.Slot.TheVariants.{Word}
 use Rattle.line_words.specs.Words.{words}
 use Rattle.dash_script.specs.Form.{within, said_among}
 
--- the words of each kind of line
+-- the words and numbers of each kind of line, in order: a period is in nanoseconds, a total, an interval, a delay and a duration in milliseconds, then an
+-- animator has its repeats, and a key its place in thousandths and its value
 abbrev pub form : RowKind → List Slot
 form kind.Head = Word word.Animate ∷ Word word.One ∷ []
 form kind.Period = Word word.Period ∷ within 1000000 1000000000 ∷ []
