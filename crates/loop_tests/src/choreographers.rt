@@ -2,6 +2,7 @@
 ghost use Rattle.std.specs.Prelude.{◌≡◌, ◌==◌, ◌+◌, ◌<◌, ◌≤◌, ℕ, [], Some, None, length, IfOk, OnOk, IsTrue, true};
 ghost use Rattle.std.proofs.Common.{subst, sym};
 ghost use Rattle.std.specs.Thread.{IsSync};
+ghost use mathlib.Core.List.{IsPrefix};
 ghost use Rattle.frame_phases.specs.Frames.{lawful};
 ghost use Rattle.choreographer.specs.Known.{IsOf};
 ghost use Rattle.choreographer.specs.Ends.{HasHandedOut, entries_in};
@@ -549,7 +550,8 @@ fn seal_one<R: Wait>(
     Ok(())
 }
 
-// Two passes by turns, of which the last hands out.
+// Two passes by turns, of which the last hears the other and hands out.
+#[tactic(auto, using(crate::proofs::Passes::hears_same))]
 fn seal_some<R: Wait>(
     rt: &R,
     c: &Choreographer,
@@ -565,12 +567,15 @@ fn seal_some<R: Wait>(
     ensures first { IsOf first.new c.now × (first.new.number ≡ first.old.number) }
     ensures last { IsOf last.new c.now × (last.new.number ≡ last.old.number) }
     ensures parts { OnOk result (HasHandedOut last.new (entries_in parts.new.items)) }
+    ensures heard { OnOk result (IsPrefix first.new.view.heard last.new.view.heard) }
 {
     for _ in 0..count {
         c.remove_callbacks(rt, first, 0, 7, None)?;
+        last.hear(c, first);
         seal_one(rt, c, last, parts)?;
     }
     c.remove_callbacks(rt, first, 0, 7, None)?;
+    last.hear(c, first);
     Ok(())
 }
 
