@@ -1,14 +1,15 @@
 //! A choreographer over small hosts and clients.
-ghost use Rattle.std.specs.Prelude.{◌≡◌, ◌==◌, ◌+◌, ◌<◌, ◌≤◌, ℕ, [], Some, None, length, IfOk, OnOk, IsTrue, true};
+ghost use Rattle.std.specs.Prelude.{◌≡◌, ◌≢◌, ◌==◌, ◌+◌, ◌<◌, ◌≤◌, ℕ, [], Some, None, length, IfOk, OnOk, IfSome, IsTrue, true};
 ghost use Rattle.std.proofs.Common.{subst, sym};
 ghost use Rattle.std.specs.Thread.{IsSync};
+ghost use mathlib.Core.List.{IsPrefix};
 ghost use Rattle.frame_phases.specs.Frames.{lawful};
 ghost use Rattle.choreographer.specs.Known.{IsOf};
 ghost use Rattle.choreographer.specs.Ends.{HasHandedOut, entries_in};
 
 use choreographer::{
-    Choreographer, ClientRan, DUE_MESSAGE, FRAME_MESSAGE, FrameClient, FrameHost, FramePass,
-    Framed, HostSent, Placed, Pulse, Sending, keep_sent,
+    Choreographer, ClientRan, Constants, DUE_MESSAGE, FRAME_MESSAGE, FrameClient, FrameHost,
+    FramePass, Framed, HostSent, Placed, Pulse, Sending, keep_sent,
 };
 use frame_phases::{Callback, FrameEntry, FrameRecord};
 use loop_model::{NoMemory, Sequence};
@@ -464,6 +465,138 @@ fn a_pulse_is_delivered_once(rt: HostRuntime) -> Result<(), Fail> {
     Ok(())
 }
 
+/// A choreographer with a pulse each 10 milliseconds, the pass that alone delivers them, and two others.
+fn with_its_pulses(
+    alloc: Global,
+) -> Result<(Choreographer, FramePass, FramePass, FramePass), NoMemory>
+    ensures passes { IfOk result (λ r. IsOf r.1 r.0 × IsOf r.2 r.0 × IsOf r.3 r.0) }
+    ensures phases { IfOk result (λ r. r.0.constants.phases ≡ 4) }
+    ensures pulses { IfOk result (λ r. r.0.constants.pulses ≡ Some r.1.number) }
+{
+    let constants = Constants {
+        looper: 0,
+        interval: 10_000_000,
+        phases: 4,
+        passes: 3,
+        seals: false,
+        pulses: Some(0),
+    };
+    let (c, mut passes) = Choreographer::make_by(alloc, constants)?;
+    let third = passes.pop().unwrap();
+    let second = passes.pop().unwrap();
+    let first = passes.pop().unwrap();
+    Ok((c, first, second, third))
+}
+
+// Delivers the pulse that came by the host's moment and runs its frame, which is always scheduled. It answers the stamp, and how the
+// frame went.
+fn pulse_and_frame<R: Wait>(
+    rt: &R,
+    c: &Choreographer,
+    pass: &mut FramePass,
+    host: &mut StillHost,
+    client: &mut Relay<R>,
+) -> Option<(u64, Framed)>
+    requires passes { IsOf pass.old c.now × IsOf client.old.pass c.now × (2 < c.now.constants.phases) }
+    requires pulses { c.now.constants.pulses ≡ Some pass.old.number }
+    ensures pass { IsOf pass.new c.now × (pass.new.number ≡ pass.old.number) }
+    ensures client { IsOf client.new.pass c.now }
+    ensures frame { IfSome result (λ r. r.1 ≢ Framed.Unscheduled) }
+{
+    let Some(pulse) = c.on_vsync(rt, pass, host) else {
+        return None;
+    };
+    let framed = c.do_frame(rt, pass, host, client);
+    Some((pulse.stamp, framed))
+}
+
+/// The moments of a posting and of the look for a pulse behind it, and what these answer.
+#[derive(Drop)]
+struct Look {
+    posted: u64,
+    looked: u64,
+    placed: Placed,
+    pulse: Option<(u64, Framed)>,
+}
+
+/// A posting and a look at these moments, with these answers.
+const fn look_at(posted: u64, looked: u64, placed: Placed, pulse: Option<(u64, Framed)>) -> Look {
+    Look {
+        posted,
+        looked,
+        placed,
+        pulse,
+    }
+}
+
+/// A pulse with this stamp, whose frame ran.
+const fn done(stamp: u64) -> Option<(u64, Framed)> {
+    Some((stamp, Framed::Done))
+}
+
+// One pass posts, and behind that the pass that alone delivers pulses looks for one, at the moments of each row.
+fn look_at_each<R: Wait + Abort>(
+    rt: &R,
+    c: &Choreographer,
+    pass: &mut FramePass,
+    poster: &mut FramePass,
+    client: &mut Relay<R>,
+    rows: &[Look],
+)
+    requires passes { IsOf pass.old c.now × IsOf poster.old c.now × IsOf client.old.pass c.now × (2 < c.now.constants.phases) }
+    requires pulses { c.now.constants.pulses ≡ Some pass.old.number }
+{
+    let mut host = still(*client.ran.allocator(), 0);
+    for row in rows {
+        host.now = row.posted;
+        let placed = c.post_callback(rt, poster, &mut host, 1, row.looked, None, 0);
+        host.now = row.looked;
+        let pulse = pulse_and_frame(rt, c, pass, &mut host, client);
+        assert!(rt;
+            placed == row.placed && pulse == row.pulse,
+            "at {}",
+            row.looked
+        );
+    }
+}
+
+#[test]
+fn each_pulse_has_its_frame_before_the_next_one(rt: HostRuntime) -> Result<(), Fail> {
+    let (c, mut pass, other, mut poster) = with_its_pulses(rt.alloc())?;
+    let mut client = Relay {
+        rt: &rt,
+        pass: other,
+        ran: Vec::new(rt.alloc()),
+    };
+    let back = Some((40_000_000, Framed::Backwards { last: 70_000_000 }));
+    let rows = [
+        look_at(25_000_000, 25_000_000, Placed::Asked, None),
+        look_at(26_000_000, 78_000_000, Placed::Already, done(30_000_000)),
+        look_at(31_000_000, 40_000_000, Placed::Asked, back),
+        look_at(45_000_000, 45_000_000, Placed::Already, None),
+        look_at(50_000_000, 80_000_000, Placed::Already, done(50_000_000)),
+        look_at(80_000_000, 95_000_000, Placed::Asked, done(90_000_000)),
+    ];
+    look_at_each(
+        &rt,
+        &c,
+        &mut pass,
+        &mut poster,
+        &mut client,
+        rows.as_slice(),
+    );
+    let ran = [
+        (callback(0, 1, 25, 25_000_000), 70_000_000),
+        (callback(1, 1, 26, 78_000_000), 70_000_000),
+        (callback(2, 1, 31, 40_000_000), 80_000_000),
+        (callback(3, 1, 45, 45_000_000), 80_000_000),
+        (callback(4, 1, 50, 80_000_000), 80_000_000),
+        (callback(5, 1, 80, 95_000_000), 90_000_000),
+    ];
+    assert!(rt; client.ran.as_slice() == ran.as_slice());
+    Ok(())
+}
+
 #[test]
 fn a_due_callback_schedules_a_frame_once(rt: HostRuntime) -> Result<(), Fail> {
     let (c, mut pass, _, _) = three(rt.alloc(), 10_000_000)?;
@@ -549,7 +682,8 @@ fn seal_one<R: Wait>(
     Ok(())
 }
 
-// Two passes by turns, of which the last hands out.
+// Two passes by turns, of which the last hears the other and hands out.
+#[tactic(auto, using(crate::proofs::Passes::hears_same))]
 fn seal_some<R: Wait>(
     rt: &R,
     c: &Choreographer,
@@ -565,12 +699,15 @@ fn seal_some<R: Wait>(
     ensures first { IsOf first.new c.now × (first.new.number ≡ first.old.number) }
     ensures last { IsOf last.new c.now × (last.new.number ≡ last.old.number) }
     ensures parts { OnOk result (HasHandedOut last.new (entries_in parts.new.items)) }
+    ensures heard { OnOk result (IsPrefix first.new.view.heard last.new.view.heard) }
 {
     for _ in 0..count {
         c.remove_callbacks(rt, first, 0, 7, None)?;
+        last.hear(c, first);
         seal_one(rt, c, last, parts)?;
     }
     c.remove_callbacks(rt, first, 0, 7, None)?;
+    last.hear(c, first);
     Ok(())
 }
 
