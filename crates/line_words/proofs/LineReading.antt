@@ -1,5 +1,5 @@
 -- What is read line by line is what the text is the text of, or the text's least bad line.
-use Rattle.std.proofs.Common.{◌≡◌, ◌+◌, ◌-◌, ◌<◌, ◌≤◌, ℕ, suc, true, eqb, List, [], ◌∷◌, ◌++◌, map, length, take, Option, Some, None, Result, Ok, Err, refl, sym, ap, subst, ◌∙◌, inl, inr, arith, append_assoc}
+use Rattle.std.proofs.Common.{◌≡◌, ◌+◌, ◌-◌, ◌<◌, ◌≤◌, ℕ, suc, true, false, eqb, List, [], ◌∷◌, ◌++◌, map, length, take, Option, Some, None, Result, Ok, Err, refl, sym, ap, subst, ◌∙◌, inl, inr, arith, append_assoc}
 use Rattle.std.specs.Prelude.{◌&&◌}
 use Rattle.std.specs.List.{join_with_byte, flat_map, AllByRecursion}
 use Rattle.std.specs.Option.{option_and_then}
@@ -12,10 +12,13 @@ use Rattle.std.proofs.Math.Seq.{take-append_seam, take-append-add}
 use Rattle.loop_model.proofs.Sorting.{AllByRecursion-append}
 use Rattle.line_words.specs.Words.{pieces}
 use Rattle.line_words.specs.LeastBad.{Begins, first_lines, IsLeastBad}
-use Rattle.line_words.specs.LineReading.{Reading, next_line, goes_on, read_from, read_text}
+use Rattle.line_words.specs.LineReading.{Reading, next_line, goes_on, read_from, read_text, plain, refused, taken_or}
+use Rattle.line_words.specs.Refusing.{with_said}
+use Rattle.line_words.specs.RefusedReading as refusing
 use Rattle.line_words.proofs.Splitting.{first_part}
 use Rattle.line_words.proofs.Joining.{is_free, AllFree, parts_free, line_first}
 use Rattle.line_words.proofs.Pieces.{failed}
+use Rattle.line_words.proofs.Refusing.{answer, same_answer, same_line, failed as refused_at, not_both as refused_not}
 
 -- ---- lines one after the other
 
@@ -50,6 +53,7 @@ pub record IsForm {L D T : Type 0} (r : Reading L D T) (bytes_of line_text : L �
   pub free : (l : L) → Fits l → is_free 10 (bytes_of l) ≡ true
   pub again : (l : L) → Fits l → r.line_of (bytes_of l) ≡ Some l
   pub taken : (bytes : List ℕ) (l : L) → r.line_of bytes ≡ Some l → Fits l × (bytes ≡ bytes_of l)
+  pub empty : r.line_of [] ≡ None
   pub leads : (t : T) → (d : D) × (run r r.start (lines t) ≡ Some d) × (r.is_end d ≡ true) × (r.whole d ≡ t)
   pub starts : Stands r.start []
   pub more : (d e : D) (l : L) (ls : List L) → Stands d ls → r.next d l ≡ Some e → Stands e (ls ++ l ∷ [])
@@ -59,6 +63,11 @@ pub record IsForm {L D T : Type 0} (r : Reading L D T) (bytes_of line_text : L �
 -- b is the text of t, whose lines fit
 abbrev pub IsTextBy : {L T : Type 0} → (L → List ℕ) → (T → List L) → (L → Type 0) → List ℕ → T → Type 0
 IsTextBy line_text lines Fits b t = (b ≡ flat_map line_text (lines t)) × AllByRecursion Fits (lines t)
+
+-- what is read, and without a cause where it is refused
+abbrev plainly : {T : Type 0} → Result T ℕ → Result T (ℕ × Unit {0})
+plainly (Ok t) = Ok t
+plainly (Err k) = Err (k, tt)
 
 abbrev fed_pieces : List (List ℕ) → List ℕ
 fed_pieces ps = flat_map (λ p. p ++ 10 ∷ []) ps
@@ -258,22 +267,76 @@ module _ {L D T : Type 0} {r : Reading L D T} {bytes_of line_text : L → List �
       let h : Reached b r.start [] p.0 p.1 1 = record { stands = f.starts; fit = tt; ran = refl; cut = p.2; line = refl } in
       subst (λ ps. Tells b (read_from r 1 r.start ps)) (sym p.2) (tells b r.start [] p.0 p.1 1 h)
 
-  pub text_found : (b : List ℕ) (t : T) → read_text r b ≡ Ok t → IsText b t
-  text_found b t e = subst (Tells b) e (text_tells b)
+  -- ---- the language of these lines is read so
 
-  pub text_only : (b : List ℕ) (s t : T) → read_text r b ≡ Ok s → IsText b t → s ≡ t
-  text_only b s t e is = same_value s t (read_text r b) e (text_again b t is)
+  plain_next : (k : ℕ) (d : D) (o : Option D) (x : D → Result T ℕ) (y : D → Result T (ℕ × Unit {0})) → ((e : D) → y e ≡ plainly (x e)) → refusing.goes_on k (refused o) (taken_or d o) y ≡ plainly (goes_on k o x)
+  plain_next k d None x y each = refl
+  plain_next k d (Some e) x y each = each e
 
-  pub text_never : (b : List ℕ) (k : ℕ) (t : T) → read_text r b ≡ Err k → IsText b t → ⊥
-  text_never b k t e is = not_both t k (sym e ∙ text_again b t is)
+  plain_said : (k : ℕ) (d : D) (o : Option L) (x : D → Result T ℕ) (y : D → Result T (ℕ × Unit {0})) → ((e : D) → y e ≡ plainly (x e))
+      → refusing.goes_on k (refused (option_and_then (r.next d) o)) (with_said (plain r) d o) y ≡ plainly (goes_on k (option_and_then (r.next d) o) x)
+  plain_said k d None x y each = refl
+  plain_said k d (Some l) x y each = plain_next k d (r.next d l) x y each
 
-  pub text_bad : (b : List ℕ) (k : ℕ) → read_text r b ≡ Err k → IsLeastBad IsText b k
-  text_bad b k e =
-      let bad : IsBad b k = subst (Tells b) e (text_tells b) in
+  plain_last : (k : ℕ) (d : D) (p : List ℕ) → refusing.read_from (plain r) k d (p ∷ []) ≡ plainly (read_from r k d (p ∷ []))
+  unfolding read_from refusing.read_from
+  plain_last k d p =
+      elim (cases_Bool (eqb (length p) 0 && r.is_end d)) [
+        | inl ends ↦
+            let none = nil_from_length p (eqb-true (length p) 0 (and_parts (eqb (length p) 0) (r.is_end d) ends).0) in
+            let says : r.line_of p ≡ None = ap r.line_of none ∙ f.empty in
+            rw ends (ap (λ o. answer (r.whole (with_said (plain r) d o))) says)
+        | inr other ↦ rw other refl
+      ]
+
+  -- the text ends here, or may not stop here
+  pub plain_ended : (k : ℕ) (d : D) (p : List ℕ) → (eqb (length p) 0 && r.is_end d) ≡ true → refusing.read_from (plain r) k d (p ∷ []) ≡ answer (r.whole d)
+  unfolding read_from
+  plain_ended k d p ends = let last : plainly (read_from r k d (p ∷ [])) ≡ answer (r.whole d) = rw ends refl in plain_last k d p ∙ last
+
+  pub plain_stopped : (k : ℕ) (d : D) (p : List ℕ) → (eqb (length p) 0 && r.is_end d) ≡ false → refusing.read_from (plain r) k d (p ∷ []) ≡ refused_at k tt
+  unfolding read_from
+  plain_stopped k d p other = let last : plainly (read_from r k d (p ∷ [])) ≡ refused_at k tt = rw other refl in plain_last k d p ∙ last
+
+  plain_from : (ps : List (List ℕ)) (p : List ℕ) (k : ℕ) (d : D) → refusing.read_from (plain r) k d (p ∷ ps) ≡ plainly (read_from r k d (p ∷ ps))
+  unfolding read_from refusing.read_from
+  plain_from [] p k d = plain_last k d p
+  plain_from (q ∷ ps) p k d =
+      plain_said k d (r.line_of p) (λ e. read_from r (k + 1) e (q ∷ ps)) (λ e. refusing.read_from (plain r) (k + 1) e (q ∷ ps)) (λ e. plain_from ps q (k + 1) e)
+
+  plain_text : (b : List ℕ) → refusing.read_text (plain r) b ≡ plainly (read_text r b)
+  plain_text b =
+      let p = first_part 10 b in
+      subst (λ (ps : List (List ℕ)). refusing.read_from (plain r) 1 r.start ps ≡ plainly (read_from r 1 r.start ps)) (sym p.2) (plain_from p.1 p.0 1 r.start)
+
+  plain_found : (t : T) (x : Result T ℕ) → plainly x ≡ answer t → x ≡ Ok t
+  plain_found t (Ok s) e = ap (λ (y : T). Ok y) (same_answer s t e)
+  plain_found t (Err k) e = absurd (refused_not k tt t e)
+
+  plain_refused : (k : ℕ) (u : Unit {0}) (x : Result T ℕ) → plainly x ≡ refused_at k u → x ≡ Err k
+  plain_refused k u (Ok s) e = absurd (refused_not k u s (sym e))
+  plain_refused k u (Err j) e = ap (λ (n : ℕ). failed n) (same_line {T = T} j k tt u e)
+
+  pub text_found : (b : List ℕ) (t : T) → refusing.read_text (plain r) b ≡ answer t → IsText b t
+  text_found b t e = subst (Tells b) (plain_found t (read_text r b) (sym (plain_text b) ∙ e)) (text_tells b)
+
+  pub text_only : (b : List ℕ) (s t : T) → refusing.read_text (plain r) b ≡ answer s → IsText b t → s ≡ t
+  text_only b s t e is = same_value s t (read_text r b) (plain_found s (read_text r b) (sym (plain_text b) ∙ e)) (text_again b t is)
+
+  never : (b : List ℕ) (k : ℕ) (t : T) → read_text r b ≡ Err k → IsText b t → ⊥
+  never b k t e is = not_both t k (sym e ∙ text_again b t is)
+
+  pub text_never : (b : List ℕ) (k : ℕ) (u : Unit {0}) (t : T) → refusing.read_text (plain r) b ≡ refused_at k u → IsText b t → ⊥
+  text_never b k u t e is = never b k t (plain_refused k u (read_text r b) (sym (plain_text b) ∙ e)) is
+
+  pub text_bad : (b : List ℕ) (k : ℕ) (u : Unit {0}) → refusing.read_text (plain r) b ≡ refused_at k u → IsLeastBad IsText b k
+  text_bad b k u e =
+      let read : read_text r b ≡ failed k = plain_refused k u (read_text r b) (sym (plain_text b) ∙ e) in
+      let bad : IsBad b k = subst (Tells b) read (text_tells b) in
       record {
         counted = bad.counted;
         within = bad.within;
         before = bad.before;
         at = bad.at;
-        whole = λ t is. text_never b k t e is;
+        whole = λ t is. never b k t read is;
       }

@@ -1,12 +1,21 @@
 -- The lines of a text that may be refused, one after the other, and lines in place of bytes.
 use Rattle.std.proofs.Common.{◌≡◌, ◌+◌, ℕ, List, [], ◌∷◌, ◌++◌, Option, Some, None, Result, Ok, Err, refl, sym, ap, subst, ◌∙◌, append_assoc}
 use Rattle.std.specs.List.{AllByRecursion, flat_map, join_with_byte}
+use Rattle.std.specs.Result.{IsErrAnd}
 use Rattle.std.proofs.lemmas.List.Splits.{join_with_byte-slice_split}
 use Rattle.line_words.specs.Words.{pieces}
-use Rattle.line_words.specs.Refusing.{Language, with_said, first_cause}
-use Rattle.line_words.specs.RefusedReading.{goes_on, read_from, read_text, run}
+use Rattle.line_words.specs.Refusing.{Language, with_said}
+use Rattle.line_words.specs.RefusedReading.{goes_on, line_read, read_from, read_text, run}
+use Rattle.line_words.specs.Stops.{Reads, Stops}
+use Rattle.line_words.specs.declared.reader.Stop.{Stop}
+use Rattle.line_words.specs.declared.reader.Stop.TheVariants as stop
 use Rattle.line_words.proofs.Splitting.{first_part}
-use Rattle.line_words.proofs.Refusing.{answer, failed, not_both, same_answer}
+use Rattle.line_words.proofs.Refusing.{answer, failed, not_both, same_answer, same_line, same_cause}
+
+-- an error that is passed on stops reading
+pub passed_on : {T C : Type 0} (a : Result T (Stop C)) (s : Stop C) (total : Result T (ℕ × C)) → IsErrAnd a (λ e. e ≡ s) → Stops s total → Reads a total
+passed_on (Ok t) s total is h = absurd is
+passed_on (Err e) s total is h = subst (λ x. Stops x total) (sym is) h
 
 -- ---- a text that is read
 
@@ -22,30 +31,31 @@ module _ {L D T C : Type 0} (r : Language L D T C) (k : ℕ) (d : D) where
   said rest text more o e is =
       a_line rest text more e ∙ ap (λ x. goes_on k (r.cause k d x) (with_said r d x) (λ e. read_from r (k + 1) e (pieces more))) is
 
-  pub has_cause : (rest text more : List ℕ) (o : Option L) (c : C) (total : Result T (ℕ × C)) → pieces rest ≡ text ∷ pieces more → r.line_of text ≡ o → r.cause k d o ≡ Some c
-      → read_from r k d (pieces rest) ≡ total → total ≡ failed k c
-  has_cause rest text more o c total e is bad h =
-      sym h ∙ said rest text more o e is ∙ ap (λ x. goes_on k x (with_said r d o) (λ e. read_from r (k + 1) e (pieces more))) bad
+  -- ---- a line that is taken, or stops reading
 
-  pub one_line : (rest text more : List ℕ) (l : L) (total : Result T (ℕ × C)) → pieces rest ≡ text ∷ pieces more → r.line_of text ≡ Some l → r.cause k d (Some l) ≡ None
-      → read_from r k d (pieces rest) ≡ total → read_from r (k + 1) (r.next d l) (pieces more) ≡ total
-  one_line rest text more l total e is good h =
-      sym (said rest text more (Some l) e is ∙ ap (λ x. goes_on k x (r.next d l) (λ e. read_from r (k + 1) e (pieces more))) good) ∙ h
+  went_on : (o : Option C) (m e : D) (f : D → Result T (ℕ × C)) → goes_on k o m (λ x. answer x) ≡ answer e → goes_on k o m f ≡ f e
+  went_on None m e f h = ap f (same_answer m e h)
+  went_on (Some c) m e f h = absurd (not_both k c e h)
 
-  -- bytes without a line feed
-  pub stopped : (rest text : List ℕ) (c : C) (total : Result T (ℕ × C)) → pieces rest ≡ text ∷ [] → r.stop k d text ≡ Some c → read_from r k d (pieces rest) ≡ total → total ≡ failed k c
+  stopped_at : (o : Option C) (m : D) (f : D → Result T (ℕ × C)) (j : ℕ) (c : C) → goes_on k o m (λ x. answer x) ≡ failed j c → goes_on k o m f ≡ failed j c
+  stopped_at None m f j c h = absurd (not_both j c m (sym h))
+  stopped_at (Some a) m f j c h = ap (λ (n : ℕ). failed n a) (same_line {T = D} k j a c h) ∙ ap (λ (x : C). failed j x) (same_cause {T = D} k j a c h)
+
+  pub held_line : (e : D) (rest text more : List ℕ) (total : Result T (ℕ × C)) → pieces rest ≡ text ∷ pieces more → line_read r k d text ≡ answer e
+      → read_from r k d (pieces rest) ≡ total → read_from r (k + 1) e (pieces more) ≡ total
+  held_line e rest text more total cut is h =
+      sym (a_line rest text more cut ∙ went_on (r.cause k d (r.line_of text)) (with_said r d (r.line_of text)) e (λ x. read_from r (k + 1) x (pieces more)) is) ∙ h
+
+  pub refused_line : (s : Stop C) (rest text more : List ℕ) (total : Result T (ℕ × C)) → pieces rest ≡ text ∷ pieces more → Stops s (line_read r k d text)
+      → read_from r k d (pieces rest) ≡ total → Stops s total
+  refused_line (stop.Bad j c) rest text more total cut is h =
+      sym h ∙ a_line rest text more cut ∙ stopped_at (r.cause k d (r.line_of text)) (with_said r d (r.line_of text)) (λ x. read_from r (k + 1) x (pieces more)) j c is
+  refused_line stop.Memory rest text more total cut is h = tt
+
+  -- where the text may not stop
+  pub stopped : (bytes : List ℕ) (c : C) → r.stop k d bytes ≡ Some c → read_from r k d (bytes ∷ []) ≡ failed k c
   unfolding read_from
-  stopped rest text c total e bad h =
-      sym h ∙ ap (read_from r k d) e ∙ ap (λ x. goes_on k x (with_said r d (r.line_of text)) (λ e. read_from r (k + 1) e [])) bad
-
-  pub missing : (rest : List ℕ) (c : C) (total : Result T (ℕ × C)) → rest ≡ [] → r.stop k d [] ≡ Some c → read_from r k d (pieces rest) ≡ total → total ≡ failed k c
-  missing rest c total none bad h = stopped rest [] c total (ap pieces none) bad h
-
-  -- the text is over, and no word says nothing
-  pub ended : (rest : List ℕ) (total : Result T (ℕ × C)) → rest ≡ [] → r.line_of [] ≡ None → r.stop k d [] ≡ None → read_from r k d (pieces rest) ≡ total → total ≡ answer (r.whole d)
-  unfolding read_from
-  ended rest total none says good h =
-      sym h ∙ ap (λ x. read_from r k d (pieces x)) none ∙ ap (λ x. goes_on k x (with_said r d (r.line_of [])) (λ e. read_from r (k + 1) e [])) good ∙ ap (λ x. answer (r.whole (with_said r d x))) says
+  stopped bytes c bad = ap (λ x. goes_on k x (with_said r d (r.line_of bytes)) (λ e. read_from r (k + 1) e [])) bad
 
 -- ---- lines that are run
 
@@ -61,6 +71,12 @@ module _ {L D T C : Type 0} {r : Language L D T C} {line_text : L → List ℕ} 
   same_next : (k : ℕ) (o : Option C) (d : D) (x y : D → Result T (ℕ × C)) → ((e : D) → x e ≡ y e) → goes_on k o d x ≡ goes_on k o d y
   same_next k None d x y h = h d
   same_next k (Some c) d x y h = refl
+
+  -- where the text may stop, no bytes are left, which say nothing
+  pub ended : (k : ℕ) (d : D) (bytes : List ℕ) → r.stop k d bytes ≡ None → read_from r k d (bytes ∷ []) ≡ answer (r.whole d)
+  unfolding read_from
+  ended k d bytes good =
+      ap (λ x. goes_on k x (with_said r d (r.line_of bytes)) (λ e. read_from r (k + 1) e [])) good ∙ ap (λ x. answer (r.whole (with_said r d x))) (ap r.line_of (f.fed k d bytes good) ∙ f.empty)
 
   -- the text of lines is read as they are run
   pub texts_run : (k : ℕ) (d : D) (ls : List L) → AllByRecursion Whole ls → read_from r k d (pieces (flat_map line_text ls)) ≡ run r k d ls

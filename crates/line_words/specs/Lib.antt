@@ -5,4 +5,5 @@ pub mod LeastBad
 pub mod LineReading
 pub mod Refusing
 pub mod RefusedReading
+pub mod Stops
 pub mod Answers

@@ -1,9 +1,8 @@
 -- Texts that are read line by line.
-use Rattle.std.specs.Prelude.{◌≡◌, ℕ, ◌+◌, ◌==◌, Bool, true, false, ◌&&◌, List, [], ◌∷◌, length, Option, Some, None, Result, Ok, Err, if◌then◌else◌}
+use Rattle.std.specs.Prelude.{ℕ, ◌+◌, ◌==◌, Bool, true, false, ◌&&◌, List, [], ◌∷◌, length, Option, Some, None, Result, Ok, Err, if◌then◌else◌}
 use Rattle.std.specs.Option.{option_and_then}
 use Rattle.line_words.specs.Words.{pieces}
-use Rattle.line_words.specs.declared.reader.Stop.{Stop}
-use Rattle.line_words.specs.declared.reader.Stop.TheVariants as stop
+use Rattle.line_words.specs.Refusing.{Language}
 
 -- how the lines of a text are read: the draft before the first line, what the bytes of a line say, the draft with one more line
 -- where the line may come next, whether the text may end there, and what it then is the text of
@@ -38,12 +37,23 @@ read_from r k d (line ∷ piece ∷ more) = goes_on k (next_line r d line) (λ e
 abbrev pub read_text : {L D T : Type 0} → Reading L D T → List ℕ → Result T ℕ
 read_text r b = read_from r 1 r.start (pieces b)
 
--- reading stopped for this reason, or for want of memory
-abbrev pub Stops : {T : Type 0} → Stop → Result T ℕ → Type 0
-Stops (stop.Bad line) read = read ≡ Err line
-Stops stop.Memory read = Unit {0}
+-- a line is refused where it may not come, and for no cause
+abbrev pub refused : {D : Type 0} → Option D → Option (Unit {0})
+refused (Some d) = None
+refused None = Some tt
 
--- what was read, or why reading stopped
-abbrev pub ReadsText : {T : Type 0} → Result T Stop → Result T ℕ → Type 0
-ReadsText (Ok t) read = read ≡ Ok t
-ReadsText (Err e) read = Stops e read
+-- what a line that may come next makes of a draft; no other line changes it
+abbrev pub taken_or : {D : Type 0} → D → Option D → D
+taken_or d (Some e) = e
+taken_or d None = d
+
+-- the language of lines that are refused without a cause
+abbrev pub plain : {L D T : Type 0} → Reading L D T → Language L D T (Unit {0})
+plain r = record {
+  start = r.start;
+  line_of = r.line_of;
+  next = λ d l. taken_or d (r.next d l);
+  cause = λ k d said. refused (option_and_then (r.next d) said);
+  stop = λ k d rest. if length rest == 0 && r.is_end d then None else Some tt;
+  whole = r.whole;
+}

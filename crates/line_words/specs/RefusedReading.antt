@@ -8,6 +8,10 @@ abbrev pub goes_on : {D T C : Type 0} → ℕ → Option C → D → (D → Resu
 goes_on k None d rest = rest d
 goes_on k (Some c) d rest = Err (k, c)
 
+-- what is held behind line k, which has a line feed, or the line with the first cause that it has
+abbrev pub line_read : {L D T C : Type 0} → Language L D T C → ℕ → D → List ℕ → Result D (ℕ × C)
+line_read r k d bytes = goes_on k (r.cause k d (r.line_of bytes)) (with_said r d (r.line_of bytes)) (λ e. Ok e)
+
 -- what the pieces from line k on are the text of, or the first line of them that has a cause, with the first one that it has
 unfoldable pub read_from : {L D T C : Type 0} → Language L D T C → ℕ → D → List (List ℕ) → Result T (ℕ × C)
 read_from r k d [] = Ok (r.whole d)

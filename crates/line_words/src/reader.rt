@@ -1,6 +1,8 @@
 //! Texts that are read line by line.
-ghost use Rattle.std.specs.Prelude.{◌≡◌, IfOk};
-ghost use Rattle.line_words.specs.LineReading.{ReadsText, Reading, answered, read_text};
+ghost use Rattle.std.specs.Prelude.{◌≡◌, ◌∷◌, [], Ok, IfOk, IfErr, OnOk};
+ghost use Rattle.line_words.specs.Refusing.{Language};
+ghost use Rattle.line_words.specs.RefusedReading.{line_read, read_from, read_text};
+ghost use Rattle.line_words.specs.Stops.{Reads, Stops};
 
 use crate::words::split_first;
 use loop_model::NoMemory;
@@ -8,80 +10,75 @@ use std::alloc::Global;
 
 /// Why reading stops.
 #[derive(Drop)]
-pub enum Stop {
-    /// This line is bad, counted from 1.
-    Bad(u64),
+pub enum Stop<C> {
+    /// This line is bad, counted from 1, for this cause.
+    Bad(u64, C),
     /// There was no memory.
     Memory,
 }
 
-impl From<NoMemory> for Stop {
+impl<C> From<NoMemory> for Stop<C> {
     ghost use Rattle.std.specs.Prelude.{◌≡◌};
     ghost use Rattle.line_words.specs.declared.reader.Stop.TheVariants.{Memory};
 
     ghost from_gives = { λ _ e. e ≡ Memory };
 
-    fn from(_e: NoMemory) -> Stop {
+    fn from(_e: NoMemory) -> Stop<C> {
         Stop::Memory
     }
 }
 
 /// What is read of a text so far, line by line (this project's profile).
 pub trait ByLines: Drop {
-    /// A line.
-    type Line: Drop;
     /// What a text is the text of.
     type Whole: Drop;
+    /// What a line is refused for.
+    type Cause: Drop;
 
-    /// What lines say, which may come next, and what comes of them.
-    ghost reading: { Reading Self.Line Self Self.Whole };
+    /// What a line says.
+    ghost Said: { Type 0 };
+    /// What lines hold.
+    ghost Held: { Type 0 };
+    /// What lines say and hold, and why one is refused.
+    ghost language: { Language Said Held Self.Whole Self.Cause };
+    /// What the lines so far hold.
+    ghost so_far: { Self → Held };
+    /// What is true between lines.
+    ghost IsSound: { Self → Type 0 } = { λ draft. Unit {0} };
 
     /// Nothing is read yet.
-    fn new(alloc: Global) -> Self
-        ensures { result ≡ reading.start };
+    fn new(alloc: Global) -> Result<Self, NoMemory>
+        ensures held { IfOk result (λ draft. so_far draft ≡ language.start) }
+        ensures sound { IfOk result IsSound };
 
-    /// What a line says, without its line feed.
-    fn line_of(bytes: &[u8]) -> Option<Self::Line>
-        ensures { result ≡ reading.line_of bytes.now };
+    /// Takes this line, which has a line feed behind these bytes, or stops at it.
+    fn take(&mut self, alloc: Global, line: u64, bytes: &[u8]) -> Result<(), Stop<Self::Cause>>
+        requires { IsSound self.old }
+        ensures held { OnOk result (line_read language line (so_far self.old) bytes.now ≡ Ok (so_far self.new)) }
+        ensures refused { IfErr result (λ stop. Stops stop (line_read language line (so_far self.old) bytes.now)) }
+        ensures sound { OnOk result (IsSound self.new) };
 
-    /// Takes a line where it may come next, and else answers false. `NoMemory` where there was none.
-    fn add(&mut self, alloc: Global, line: &Self::Line) -> Result<bool, NoMemory>
-        ensures { IfOk result (λ good. reading.next self.old line.now ≡ answered good self.new) };
-
-    /// Whether the text may end here.
-    fn is_ended(&self) -> bool
-        ensures { result ≡ reading.is_end self.now };
-
-    /// What the lines are the text of, where it may end here.
-    fn into_whole(self) -> Self::Whole
-        ensures { result ≡ reading.whole self };
+    /// What the lines are the text of, where this line has these bytes and no line feed.
+    fn end(self, line: u64, bytes: &[u8]) -> Result<Self::Whole, Stop<Self::Cause>>
+        requires { IsSound self }
+        ensures { Reads result (read_from language line (so_far self) (bytes.now ∷ [])) };
 }
 
-/// Reads line by line until the first bad line: one that has no line feed, that says nothing, or that may not come next. Where
-/// the text stops early it is the line behind its last one. Reading is one pass.
-pub fn read_lines<D: ByLines>(alloc: Global, bytes: &[u8]) -> Result<D::Whole, Stop>
-    ensures { ReadsText result (read_text D.reading bytes.now) }
+/// Reads line by line until the first line that has a cause, and answers it with its first cause. Reading is one pass.
+pub fn read_lines<D: ByLines>(alloc: Global, bytes: &[u8]) -> Result<D::Whole, Stop<D::Cause>>
+    ensures { Reads result (read_text D.language bytes.now) }
 {
-    let mut draft = D::new(alloc);
+    let mut draft = D::new(alloc)?;
     let mut rest = bytes;
     let mut line = 1;
-    while !rest.is_empty() {
+    'lines: while !rest.is_empty() {
         let (text, after) = split_first(rest, b'\n');
         let Some(after) = after else {
-            return Err(Stop::Bad(line));
+            return draft.end(line, rest);
         };
-        let Some(said) = D::line_of(text) else {
-            return Err(Stop::Bad(line));
-        };
-        let good = draft.add(alloc, &said)?;
-        if !good {
-            return Err(Stop::Bad(line));
-        }
+        draft.take(alloc, line, text)?;
         rest = after;
         line += 1;
     }
-    if draft.is_ended() {
-        return Ok(draft.into_whole());
-    }
-    Err(Stop::Bad(line))
+    draft.end(line, rest)
 }

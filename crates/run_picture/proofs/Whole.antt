@@ -1,5 +1,5 @@
 -- A text is read to the report whose text it is, or to its least bad line.
-use Rattle.std.proofs.Common.{◌≡◌, ◌+◌, ℕ, suc, true, eqb, List, [], ◌∷◌, ◌++◌, map, length, Some, Ok, Err, refl, sym, ap, subst, ◌∙◌, inl, inr, arith, append_assoc}
+use Rattle.std.proofs.Common.{◌&&◌, ◌≡◌, ◌+◌, ℕ, suc, true, false, eqb, List, [], ◌∷◌, ◌++◌, map, length, Some, None, Ok, Err, refl, sym, ap, subst, ◌∙◌, inl, inr, arith, append_assoc}
 use Rattle.std.specs.List.{join_with_byte, flat_map, AllByRecursion}
 use Rattle.std.specs.Option.{option_and_then}
 use Rattle.std.proofs.lemmas.Bool.{cases_Bool, eqb-true, eq-eqb}
@@ -8,9 +8,10 @@ use Rattle.std.proofs.lemmas.List.{append-nil, map-append, length-append}
 use Rattle.std.proofs.lemmas.List.Concat.{flat_map-append}
 use Rattle.loop_model.proofs.Sorting.{AllByRecursion-append}
 use Rattle.line_words.specs.Answers.{Finds, FindsAll, Names}
-use Rattle.line_words.specs.Words.{words}
-use Rattle.line_words.specs.LineReading.{read_text}
-use Rattle.line_words.proofs.LineReading.{run, run_on, Continues, IsForm, text_found, text_only, text_never, text_bad}
+use Rattle.line_words.specs.Words.{words, number_of}
+use Rattle.line_words.specs.RefusedReading.{read_from, read_text}
+use Rattle.line_words.proofs.Refusing.{answer, failed}
+use Rattle.line_words.proofs.LineReading.{run, run_on, Continues, IsForm, plain_ended, plain_stopped, text_found, text_only, text_never, text_bad}
 use Rattle.run_picture.specs.declared.report.Past.{Past as PastData}
 use Rattle.run_picture.specs.declared.report.Past.TheVariants as past_of
 use Rattle.run_picture.specs.declared.report.Act.TheVariants as act_of
@@ -28,7 +29,7 @@ use Rattle.run_picture.specs.declared.draft.Part.TheVariants as part_of
 use Rattle.run_picture.specs.declared.draft.Draft.{Draft}
 use Rattle.run_picture.specs.Text.{FitsFates, frame_lines, looper_lines, loopers_lines, lines, line_words, line_text, Fits, IsLeastBad, IsText}
 use Rattle.run_picture.specs.Lines.{line_of}
-use Rattle.run_picture.specs.Progress.{blank, opened, start, closed, shut, framed, with_past, with_act, with_run, after_part, after_open, next, is_end, report_of, reading}
+use Rattle.run_picture.specs.Progress.{blank, opened, start, closed, shut, framed, with_past, with_act, with_run, after_part, after_open, next, is_end, report_of, reading, reports}
 use Rattle.line_words.proofs.Wording.{AreWords, words_again, words_taken, no_feed_within}
 use Rattle.run_picture.proofs.Taken.{line_taken}
 use Rattle.run_picture.proofs.Again.{line_again, line_are}
@@ -461,12 +462,17 @@ ending part_of.Acts d ls e w = absurd cc
 ending part_of.Frames d ls e w = absurd cc
 ending part_of.End d ls e w = w
 
+pub nothing_said : line_of (words []) ≡ None
+unfolding line_of number_of
+nothing_said = refl
+
 form : IsForm reading bytes_of line_text lines Fits Stands
 form = record {
   fed = fed;
   free = λ l fit. no_feed_within (line_words l) (line_are l fit);
   again = read_again;
   taken = λ bytes l is. (let t = line_taken (words bytes) l is in (t.0, words_taken bytes (line_words l) t.1));
+  empty = nothing_said;
   leads = λ t. (finished t, lines_run t, refl, refl);
   starts = record { written = refl; sound = (refl, refl) };
   more = stands_on;
@@ -474,16 +480,24 @@ form = record {
   continues = λ d ls s. subst (Continues Fits lines) (sym s.written) (continues d.part d s.sound);
 }
 
+-- ---- where a text stops
+
+pub text_ends : (k : ℕ) (d : Draft) (bytes : List ℕ) → (eqb (length bytes) 0 && is_end d.part) ≡ true → read_from reports k d (bytes ∷ []) ≡ answer (report_of d)
+text_ends k d bytes ends = plain_ended form k d bytes ends
+
+pub text_stops : (k : ℕ) (d : Draft) (bytes : List ℕ) → (eqb (length bytes) 0 && is_end d.part) ≡ false → read_from reports k d (bytes ∷ []) ≡ failed k tt
+text_stops k d bytes other = plain_stopped form k d bytes other
+
 -- ---- what is answered
 
-pub found_in : (b : List ℕ) (s : Report) → read_text reading b ≡ Ok s → Finds parsed.Ok IsText (parsed.Ok s) b
-found_in b s e t is = let same : s ≡ t = cc in text_found form b t (e ∙ ap (λ (x : Report). Ok x) same)
+pub found_in : (b : List ℕ) (s : Report) → read_text reports b ≡ Ok s → Finds parsed.Ok IsText (parsed.Ok s) b
+found_in b s e t is = let same : s ≡ t = cc in text_found form b t (e ∙ ap answer same)
 
-pub found_only : (b : List ℕ) (s : Report) → read_text reading b ≡ Ok s → FindsAll parsed.Ok parsed.NoMemory IsText (parsed.Ok s) b
+pub found_only : (b : List ℕ) (s : Report) → read_text reports b ≡ Ok s → FindsAll parsed.Ok parsed.NoMemory IsText (parsed.Ok s) b
 found_only b s e t is = inl (ap parsed.Ok (text_only form b s t e is))
 
-pub found_never : (b : List ℕ) (k : ℕ) → read_text reading b ≡ Err k → FindsAll parsed.Ok parsed.NoMemory IsText (parsed.Bad k) b
-found_never b k e t is = absurd (text_never form b k t e is)
+pub found_never : (b : List ℕ) (k : ℕ) → read_text reports b ≡ Err (k, tt) → FindsAll parsed.Ok parsed.NoMemory IsText (parsed.Bad k) b
+found_never b k e t is = absurd (text_never form b k tt t e is)
 
-pub refused_as : (b : List ℕ) (k : ℕ) → read_text reading b ≡ Err k → Names parsed.Bad IsLeastBad (parsed.Bad k) b
-refused_as b k e j is = let same : k ≡ j = cc in subst (IsLeastBad b) same (text_bad form b k e)
+pub refused_as : (b : List ℕ) (k : ℕ) → read_text reports b ≡ Err (k, tt) → Names parsed.Bad IsLeastBad (parsed.Bad k) b
+refused_as b k e j is = let same : k ≡ j = cc in subst (IsLeastBad b) same (text_bad form b k tt e)

@@ -1,7 +1,8 @@
 -- A report that is read line by line.
 use Rattle.std.specs.Prelude.{ℕ, ◌==◌, Bool, true, false, [], ◌∷◌, ◌++◌, length, Option, Some, None, if◌then◌else◌}
 use Rattle.line_words.specs.Words.{words}
-use Rattle.line_words.specs.LineReading.{Reading}
+use Rattle.line_words.specs.LineReading.{Reading, plain}
+use Rattle.line_words.specs.Refusing.{Language}
 use Rattle.run_picture.specs.declared.report.Past.{Past as PastData}
 use Rattle.run_picture.specs.declared.report.Act.{Act as ActData}
 use Rattle.run_picture.specs.declared.report.Run.{Run as RunData}
@@ -107,3 +108,7 @@ report_of d = record { edition = d.edition; loopers = d.loopers }
 -- how the lines of a report are read
 abbrev pub reading : Reading Line Draft Report
 reading = record { start = start; line_of = λ bytes. line_of (words bytes); next = next; is_end = λ d. is_end d.part; whole = report_of }
+
+-- the language of reports
+abbrev pub reports : Language Line Draft Report (Unit {0})
+reports = plain reading

@@ -6,7 +6,7 @@ ghost use Rattle.run_picture.specs.Progress.{after_acts, after_frames, after_ope
 use crate::line::Line;
 use crate::lines::line_of;
 use crate::report::{Act, Fates, Frame, Looper, Past, Report, Run};
-use line_words::ByLines;
+use line_words::{ByLines, Stop};
 use loop_model::{NoMemory, Sequence};
 use std::alloc::Global;
 use std::mem::replace;
@@ -187,48 +187,60 @@ impl Draft {
 }
 
 impl ByLines for Draft {
-    type Line = Line;
-
     type Whole = Report;
 
-    ghost use Rattle.run_picture.specs.Progress.{reading};
+    type Cause = ();
 
-    ghost reading = { reading };
+    ghost use Rattle.run_picture.specs.declared.line.Line.{Line};
+    ghost use Rattle.run_picture.specs.declared.draft.Draft.{Draft};
+    ghost use Rattle.run_picture.specs.Progress.{reports};
 
-    fn new(alloc: Global) -> Draft {
-        Draft {
+    ghost Said = { Line };
+
+    ghost Held = { Draft };
+
+    ghost language = { reports };
+
+    ghost so_far = { λ draft. draft };
+
+    fn new(alloc: Global) -> Result<Draft, NoMemory> {
+        Ok(Draft {
             part: Part::Start,
             edition: 1,
             loopers: Sequence::from_vec(Vec::new(alloc)),
             current: blank(alloc),
             frame: opened(alloc, 0),
-        }
-    }
-
-    fn line_of(bytes: &[u8]) -> Option<Line> {
-        line_of(bytes)
+        })
     }
 
     #[tactic(auto, unfolding(crate::specs::Progress::next))]
-    fn add(&mut self, alloc: Global, line: &Line) -> Result<bool, NoMemory> {
-        match self.part {
-            Part::Start => Ok(self.add_title(line)),
-            Part::Open => Ok(self.add_between(line)),
-            Part::Past => self.add_past(line),
-            Part::Acts => self.add_act(alloc, line),
-            Part::Frames => self.add_frame(alloc, line),
-            Part::End => Ok(false),
+    fn take(&mut self, alloc: Global, line: u64, bytes: &[u8]) -> Result<(), Stop<()>> {
+        let Some(said) = line_of(bytes) else {
+            return Err(Stop::Bad(line, ()));
+        };
+        let good = match self.part {
+            Part::Start => self.add_title(&said),
+            Part::Open => self.add_between(&said),
+            Part::Past => self.add_past(&said)?,
+            Part::Acts => self.add_act(alloc, &said)?,
+            Part::Frames => self.add_frame(alloc, &said)?,
+            Part::End => false,
+        };
+        if !good {
+            return Err(Stop::Bad(line, ()));
         }
+        Ok(())
     }
 
-    fn is_ended(&self) -> bool {
-        matches!(self.part, Part::End)
-    }
-
-    fn into_whole(self) -> Report {
-        Report {
+    #[tactic(auto, using(crate::proofs::Whole::text_ends, crate::proofs::Whole::text_stops))]
+    fn end(self, line: u64, bytes: &[u8]) -> Result<Report, Stop<()>> {
+        let is_whole = bytes.is_empty() & matches!(self.part, Part::End);
+        if !is_whole {
+            return Err(Stop::Bad(line, ()));
+        }
+        Ok(Report {
             edition: self.edition,
             loopers: self.loopers,
-        }
+        })
     }
 }

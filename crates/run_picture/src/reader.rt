@@ -18,7 +18,7 @@ pub fn parse_report(alloc: Global, bytes: &[u8]) -> ParsedReport
 {
     match read_lines::<Draft>(alloc, bytes) {
         Ok(report) => ParsedReport::Ok(report),
-        Err(Stop::Bad(line)) => ParsedReport::Bad { line },
+        Err(Stop::Bad(line, ())) => ParsedReport::Bad { line },
         Err(Stop::Memory) => ParsedReport::NoMemory,
     }
 }

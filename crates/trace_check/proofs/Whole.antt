@@ -1,5 +1,6 @@
 -- A text is read to the trace whose text it is, or to its least bad line.
-use Rattle.std.proofs.Common.{◌≡◌, ◌+◌, ◌-◌, ◌<◌, ℕ, zero, suc, true, false, cond, eqb, List, [], ◌∷◌, ◌++◌, map, length, Some, Ok, Err, refl, sym, ap, subst, ◌∙◌, inl, inr, arith, append_assoc}
+use Rattle.std.proofs.Common.{◌≡◌, ◌+◌, ◌-◌, ◌<◌, ℕ, zero, suc, true, false, cond, eqb, List, [], ◌∷◌, ◌++◌, map, length, Some, None, Ok, Err, refl, sym, ap, subst, ◌∙◌, inl, inr, arith, append_assoc}
+use Rattle.std.specs.Prelude.{◌&&◌}
 use Rattle.std.specs.List.{flat_map, AllByRecursion}
 use Rattle.std.specs.Option.{option_and_then}
 use Rattle.std.proofs.lemmas.Bool.{cases_Bool, eqb-true, eqb-false, ne_eqb}
@@ -12,8 +13,9 @@ use Rattle.loop_model.specs.declared.call.Call.TheVariants as call_of
 use Rattle.loop_model.specs.declared.reply.Reply.TheVariants as reply_of
 use Rattle.loop_model.proofs.Sorting.{AllByRecursion-append}
 use Rattle.line_words.specs.Answers.{Finds, FindsAll, Names}
-use Rattle.line_words.specs.LineReading.{read_text}
-use Rattle.line_words.proofs.LineReading.{run, run_on, Continues, IsForm, text_found, text_only, text_never, text_bad}
+use Rattle.line_words.specs.RefusedReading.{read_from, read_text}
+use Rattle.line_words.proofs.Refusing.{answer, failed}
+use Rattle.line_words.proofs.LineReading.{run, run_on, Continues, IsForm, plain_ended, plain_stopped, text_found, text_only, text_never, text_bad}
 use Rattle.trace_check.specs.declared.line.Line.{Line}
 use Rattle.trace_check.specs.declared.line.Line.TheVariants.{Title, Queue, Entry, End}
 use Rattle.trace_check.specs.declared.draft.Part.{Part}
@@ -22,11 +24,12 @@ use Rattle.trace_check.specs.declared.draft.Draft.{Draft}
 use Rattle.trace_check.specs.declared.trace.Trace.{Trace}
 use Rattle.trace_check.specs.declared.trace.ParsedTrace.TheVariants as parsed
 use Rattle.std.specs.List.{join_with_byte}
-use Rattle.line_words.specs.Words.{words}
+use Rattle.line_words.specs.Words.{words, number_of}
+use Rattle.line_words.specs.Taking.{short, long}
 use Rattle.trace_check.specs.Line.{line_words, Fits}
 use Rattle.trace_check.specs.Text.{head_of, queue_lines, lines, line_text, IsLeastBad, IsText}
-use Rattle.trace_check.specs.Reading.{line_of}
-use Rattle.trace_check.specs.Progress.{blank, opened, start, settled, with_entry, after_part, next, is_end, trace_so_far, reading}
+use Rattle.trace_check.specs.Reading.{line_of, entry}
+use Rattle.trace_check.specs.Progress.{blank, opened, start, settled, with_entry, after_part, next, is_end, trace_so_far, reading, traces}
 use Rattle.line_words.proofs.Wording.{AreWords, words_again, words_taken, no_feed_within}
 use Rattle.trace_check.proofs.Taken.{line_taken}
 use Rattle.trace_check.proofs.Again.{line_again, line_are}
@@ -262,12 +265,17 @@ ending part_of.Start d ls e w = absurd cc
 ending part_of.Body d ls e w = absurd cc
 ending part_of.End d ls e w = w
 
+pub nothing_said : line_of (words []) ≡ None
+unfolding line_of entry short long number_of
+nothing_said = refl
+
 form : IsForm reading bytes_of line_text lines Fits Stands
 form = record {
   fed = fed;
   free = λ l fit. no_feed_within (line_words l) (line_are l fit);
   again = read_again;
   taken = λ bytes l is. (let t = line_taken (words bytes) l is in (t.0, words_taken bytes (line_words l) t.1));
+  empty = nothing_said;
   leads = λ t. (finished t, lines_run t, refl, refl);
   starts = record { written = refl; sound = (refl, refl) };
   more = stands_on;
@@ -275,16 +283,24 @@ form = record {
   continues = λ d ls s. continues d.part d ls s.written;
 }
 
+-- ---- where a text stops
+
+pub text_ends : (k : ℕ) (d : Draft) (bytes : List ℕ) → (eqb (length bytes) 0 && is_end d.part) ≡ true → read_from traces k d (bytes ∷ []) ≡ answer (trace_so_far d)
+text_ends k d bytes ends = plain_ended form k d bytes ends
+
+pub text_stops : (k : ℕ) (d : Draft) (bytes : List ℕ) → (eqb (length bytes) 0 && is_end d.part) ≡ false → read_from traces k d (bytes ∷ []) ≡ failed k tt
+text_stops k d bytes other = plain_stopped form k d bytes other
+
 -- ---- what is answered
 
-pub found_in : (b : List ℕ) (s : Trace) → read_text reading b ≡ Ok s → Finds parsed.Ok IsText (parsed.Ok s) b
-found_in b s e t is = let same : s ≡ t = cc in text_found form b t (e ∙ ap (λ (x : Trace). Ok x) same)
+pub found_in : (b : List ℕ) (s : Trace) → read_text traces b ≡ Ok s → Finds parsed.Ok IsText (parsed.Ok s) b
+found_in b s e t is = let same : s ≡ t = cc in text_found form b t (e ∙ ap answer same)
 
-pub found_only : (b : List ℕ) (s : Trace) → read_text reading b ≡ Ok s → FindsAll parsed.Ok parsed.NoMemory IsText (parsed.Ok s) b
+pub found_only : (b : List ℕ) (s : Trace) → read_text traces b ≡ Ok s → FindsAll parsed.Ok parsed.NoMemory IsText (parsed.Ok s) b
 found_only b s e t is = inl (ap parsed.Ok (text_only form b s t e is))
 
-pub found_never : (b : List ℕ) (k : ℕ) → read_text reading b ≡ Err k → FindsAll parsed.Ok parsed.NoMemory IsText (parsed.Bad k) b
-found_never b k e t is = absurd (text_never form b k t e is)
+pub found_never : (b : List ℕ) (k : ℕ) → read_text traces b ≡ Err (k, tt) → FindsAll parsed.Ok parsed.NoMemory IsText (parsed.Bad k) b
+found_never b k e t is = absurd (text_never form b k tt t e is)
 
-pub refused_as : (b : List ℕ) (k : ℕ) → read_text reading b ≡ Err k → Names parsed.Bad IsLeastBad (parsed.Bad k) b
-refused_as b k e j is = let same : k ≡ j = cc in subst (IsLeastBad b) same (text_bad form b k e)
+pub refused_as : (b : List ℕ) (k : ℕ) → read_text traces b ≡ Err (k, tt) → Names parsed.Bad IsLeastBad (parsed.Bad k) b
+refused_as b k e j is = let same : k ≡ j = cc in subst (IsLeastBad b) same (text_bad form b k tt e)

@@ -2,7 +2,8 @@
 use Rattle.std.specs.Prelude.{◌-◌, ◌==◌, Bool, true, false, [], ◌∷◌, ◌++◌, Option, Some, None, if◌then◌else◌}
 use Rattle.trace_check.specs.declared.trace.TraceQueue.{TraceQueue}
 use Rattle.loop_model.specs.declared.entry.Entry.{Entry as EntryData}
-use Rattle.line_words.specs.LineReading.{Reading}
+use Rattle.line_words.specs.LineReading.{Reading, plain}
+use Rattle.line_words.specs.Refusing.{Language}
 use Rattle.trace_check.specs.declared.line.Head.{Head}
 use Rattle.trace_check.specs.declared.line.Line.{Line}
 use Rattle.trace_check.specs.declared.line.Line.TheVariants.{Title, Queue, Entry, End}
@@ -69,3 +70,7 @@ trace_so_far d = record { queues = d.queues }
 -- how the lines of a trace are read
 abbrev pub reading : Reading Line Draft Trace
 reading = record { start = start; line_of = λ bytes. line_of (words bytes); next = next; is_end = λ d. is_end d.part; whole = trace_so_far }
+
+-- the language of traces
+abbrev pub traces : Language Line Draft Trace (Unit {0})
+traces = plain reading

@@ -6,7 +6,7 @@ ghost use Rattle.trace_check.specs.Progress.{after_entries, after_part, after_qu
 use crate::line::{Head, Line};
 use crate::reading::line_of;
 use crate::trace::{Trace, TraceQueue};
-use line_words::ByLines;
+use line_words::{ByLines, Stop};
 use loop_model::{Entry, NoMemory, Sequence};
 use std::alloc::Global;
 use std::mem::replace;
@@ -126,44 +126,56 @@ impl Draft {
 }
 
 impl ByLines for Draft {
-    type Line = Line;
-
     type Whole = Trace;
 
-    ghost use Rattle.trace_check.specs.Progress.{reading};
+    type Cause = ();
 
-    ghost reading = { reading };
+    ghost use Rattle.trace_check.specs.declared.line.Line.{Line};
+    ghost use Rattle.trace_check.specs.declared.draft.Draft.{Draft};
+    ghost use Rattle.trace_check.specs.Progress.{traces};
 
-    fn new(alloc: Global) -> Draft {
-        Draft {
+    ghost Said = { Line };
+
+    ghost Held = { Draft };
+
+    ghost language = { traces };
+
+    ghost so_far = { λ draft. draft };
+
+    fn new(alloc: Global) -> Result<Draft, NoMemory> {
+        Ok(Draft {
             part: Part::Start,
             queues: Sequence::from_vec(Vec::new(alloc)),
             current: blank(alloc),
             left: 0,
-        }
-    }
-
-    fn line_of(bytes: &[u8]) -> Option<Line> {
-        line_of(bytes)
+        })
     }
 
     #[tactic(auto, unfolding(crate::specs::Progress::next))]
-    fn add(&mut self, alloc: Global, line: &Line) -> Result<bool, NoMemory> {
-        match self.part {
-            Part::Start => Ok(self.add_at_start(line)),
-            Part::Body if self.left == 0 => self.add_to_queues(alloc, line),
-            Part::Body => self.add_to_entries(alloc, line),
-            Part::End => Ok(false),
+    fn take(&mut self, alloc: Global, line: u64, bytes: &[u8]) -> Result<(), Stop<()>> {
+        let Some(said) = line_of(bytes) else {
+            return Err(Stop::Bad(line, ()));
+        };
+        let good = match self.part {
+            Part::Start => self.add_at_start(&said),
+            Part::Body if self.left == 0 => self.add_to_queues(alloc, &said)?,
+            Part::Body => self.add_to_entries(alloc, &said)?,
+            Part::End => false,
+        };
+        if !good {
+            return Err(Stop::Bad(line, ()));
         }
+        Ok(())
     }
 
-    fn is_ended(&self) -> bool {
-        matches!(self.part, Part::End)
-    }
-
-    fn into_whole(self) -> Trace {
-        Trace {
+    #[tactic(auto, using(crate::proofs::Whole::text_ends, crate::proofs::Whole::text_stops))]
+    fn end(self, line: u64, bytes: &[u8]) -> Result<Trace, Stop<()>> {
+        let is_whole = bytes.is_empty() & matches!(self.part, Part::End);
+        if !is_whole {
+            return Err(Stop::Bad(line, ()));
+        }
+        Ok(Trace {
             queues: self.queues,
-        }
+        })
     }
 }

@@ -18,7 +18,7 @@ pub fn parse_trace(alloc: Global, bytes: &[u8]) -> ParsedTrace
 {
     match read_lines::<Draft>(alloc, bytes) {
         Ok(trace) => ParsedTrace::Ok(trace),
-        Err(Stop::Bad(line)) => ParsedTrace::Bad { line },
+        Err(Stop::Bad(line, ())) => ParsedTrace::Bad { line },
         Err(Stop::Memory) => ParsedTrace::NoMemory,
     }
 }

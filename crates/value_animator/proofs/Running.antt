@@ -1,11 +1,10 @@
 -- Rows in place of bytes, and rows without a cause.
-use Rattle.std.proofs.Common.{◌≡◌, ◌<◌, ◌+◌, ◌==◌, arith, ℕ, true, false, Bool, List, [], ◌∷◌, ◌++◌, length, Some, None, Ok, refl, sym, ap, ◌∙◌, subst}
-use Rattle.std.proofs.lemmas.Bool.{eqb-true, ne_eqb}
+use Rattle.std.proofs.Common.{◌≡◌, ◌+◌, ◌==◌, ℕ, true, false, Bool, List, [], ◌∷◌, ◌++◌, length, Some, None, Ok, refl, sym, ap, ◌∙◌, subst}
+use Rattle.std.proofs.lemmas.Bool.{eqb-true}
 use Rattle.std.proofs.lemmas.List.{nil_from_length}
 use Rattle.line_words.specs.Words.{words}
 use Rattle.line_words.specs.RefusedReading.{run}
 use Rattle.line_words.proofs.RefusedLines.{IsSpelled}
-use Rattle.dash_script.specs.declared.refusal.Cause.TheVariants as cause
 use Rattle.dash_script.specs.Form.{said_among, numbers_of}
 use Rattle.dash_script.specs.Writing.{hole_count}
 use Rattle.dash_script.proofs.Lines.{numbers_counted}
@@ -33,17 +32,6 @@ fed d rest h = by_test (length rest == 0) refl h
     by_test : (b : Bool) → (length rest == 0) ≡ b → cause_at_stop d rest ≡ None → rest ≡ []
     by_test true is h = nil_from_length rest (eqb-true (length rest) 0 is)
     by_test false is h = let wrong = rw is at h in absurd cc
-
--- ---- why the text may stop, or not
-
-pub cut_short : (d : SoFar) (rest : List ℕ) → 0 < length rest → cause_at_stop d rest ≡ Some cause.Form
-cut_short d rest some = rw (ne_eqb (length rest) 0 (λ z. omega (arith, z, some))) refl
-
-pub stop_ended : (d : SoFar) → is_ended_stage d.stage ≡ true → cause_at_stop d [] ≡ None
-stop_ended d is = rw is refl
-
-pub stop_missing : (d : SoFar) → is_ended_stage d.stage ≡ false → cause_at_stop d [] ≡ Some cause.Missing
-stop_missing d is = rw is refl
 
 pub nothing_said : row_of [] ≡ None
 unfolding said_among numbers_of

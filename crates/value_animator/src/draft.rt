@@ -2,13 +2,13 @@
 ghost use Rattle.std.specs.Prelude.{◌≡◌, ◌≤◌, ◌<◌, ◌^◌, ◌+◌, ◌*◌, OnOk, IsTrue, length, slice_index};
 ghost use Rattle.dash_script.specs.Causes.{each_number};
 ghost use Rattle.value_animator.specs.Drafts.{so_far};
-ghost use Rattle.value_animator.specs.Reading.{values_of};
-ghost use Rattle.value_animator.specs.Reading.{cause_of, has_room, is_ended_stage, is_within, may_be_placed, may_stand, nothing, numbers_fit, places_rise, plan_of, ways_fit, with_given_key, with_row};
+ghost use Rattle.value_animator.specs.Reading.{cause_at_stop, cause_of, has_room, is_within, may_be_placed, may_stand, numbers_fit, places_rise, plan_of, ways_fit, with_given_key, with_row};
 
 use crate::plan::{Thing, Values};
-use crate::row::{Row, RowKind};
+use crate::row::{Row, RowKind, row_of};
 use animator::{Key, Keys, Plan};
 use dash_script::{Cause, Numbers, Role, Slot};
+use line_words::{ByLines, Stop};
 use loop_model::{NoMemory, Sequence};
 use std::alloc::Global;
 
@@ -100,23 +100,6 @@ fn may_be_placed(keys: &[Key], place: u64) -> bool
 }
 
 impl Draft {
-    pub(crate) fn new(alloc: Global) -> Self
-        ensures { so_far result ≡ nothing }
-    {
-        Draft {
-            period: 0,
-            things: Vec::new(alloc),
-            open: None,
-            stage: Stage::Start,
-        }
-    }
-
-    pub(crate) fn is_ended(&self) -> bool
-        ensures { result ≡ is_ended_stage self.now.stage }
-    {
-        self.stage == Stage::Ended
-    }
-
     /// Whether a line of this kind may stand next.
     fn may_stand(&self, kind: RowKind) -> bool
         ensures { result ≡ may_stand self.now.stage self.now.open kind }
@@ -168,7 +151,7 @@ impl Draft {
 
     /// The first cause for which a line may not come next.
     #[tactic(auto, unfolding(crate::specs::Reading::cause_of))]
-    pub(crate) fn cause(&self, row: &Row) -> Option<Cause>
+    fn cause(&self, row: &Row) -> Option<Cause>
         ensures { result ≡ cause_of (so_far self.now) row.now }
     {
         if !self.may_stand(row.kind) {
@@ -208,7 +191,7 @@ impl Draft {
     }
 
     /// Adds what a line says.
-    pub(crate) fn add(&mut self, row: &Row) -> Result<(), NoMemory>
+    fn add(&mut self, row: &Row) -> Result<(), NoMemory>
         requires { IsTrue (numbers_fit row.now.kind row.now.numbers) }
         ensures { OnOk result (so_far self.new ≡ with_row (so_far self.old) row.now.kind row.now.numbers) }
     {
@@ -242,14 +225,67 @@ impl Draft {
         Ok(())
     }
 
-    /// The values that were read.
-    pub(crate) fn into_values(self) -> Values
-        ensures { result ≡ values_of (so_far self) }
+    /// Why the text may not stop here, where these bytes without a line feed are left.
+    fn stop(&self, bytes: &[u8]) -> Option<Cause>
+        ensures { result ≡ cause_at_stop (so_far self.now) bytes.now }
     {
-        Values {
+        let is_whole = bytes.is_empty() & (self.stage == Stage::Ended);
+        if is_whole {
+            return None;
+        }
+        if bytes.is_empty() {
+            Some(Cause::Missing)
+        } else {
+            Some(Cause::Form)
+        }
+    }
+}
+
+impl ByLines for Draft {
+    type Whole = Values;
+
+    type Cause = Cause;
+
+    ghost use Rattle.value_animator.specs.declared.row.Row.{Row};
+    ghost use Rattle.value_animator.specs.Drafts.{so_far};
+    ghost use Rattle.value_animator.specs.Reading.{SoFar, plans};
+
+    ghost Said = { Row };
+
+    ghost Held = { SoFar };
+
+    ghost language = { plans };
+
+    ghost so_far = { so_far };
+
+    fn new(alloc: Global) -> Result<Draft, NoMemory> {
+        Ok(Draft {
+            period: 0,
+            things: Vec::new(alloc),
+            open: None,
+            stage: Stage::Start,
+        })
+    }
+
+    fn take(&mut self, _alloc: Global, line: u64, bytes: &[u8]) -> Result<(), Stop<Cause>> {
+        let Some(row) = row_of(bytes) else {
+            return Err(Stop::Bad(line, Cause::Form));
+        };
+        if let Some(cause) = self.cause(&row) {
+            return Err(Stop::Bad(line, cause));
+        }
+        self.add(&row)?;
+        Ok(())
+    }
+
+    fn end(self, line: u64, bytes: &[u8]) -> Result<Values, Stop<Cause>> {
+        if let Some(cause) = self.stop(bytes) {
+            return Err(Stop::Bad(line, cause));
+        }
+        Ok(Values {
             period: self.period,
             things: Sequence::from_vec(self.things),
-        }
+        })
     }
 }
 

@@ -1,48 +1,14 @@
 //! The values of a text.
-ghost use Rattle.std.specs.Prelude.{◌≡◌};
-ghost use Rattle.dash_script.specs.Stops.{Reads};
 ghost use Rattle.line_words.specs.Answers.{Finds, FindsAll, NamesSo, Refuses, RefusesAll};
 ghost use Rattle.line_words.specs.LeastBad.{IsLeastBad};
-ghost use Rattle.line_words.specs.RefusedReading.{read_text};
 ghost use Rattle.value_animator.specs.Plans.{IsWritten};
-ghost use Rattle.value_animator.specs.Reading.{IsRefusal, IsText, plans};
+ghost use Rattle.value_animator.specs.Reading.{IsRefusal, IsText};
 ghost use Rattle.value_animator.specs.declared.refusal.ParsedValues.TheVariants as parsed;
 
 use crate::draft::Draft;
-use crate::plan::Values;
 use crate::refusal::ParsedValues;
-use crate::row::row_of;
-use dash_script::{Cause, Stop};
-use line_words::split_first;
+use line_words::{Stop, read_lines};
 use std::alloc::Global;
-
-/// Reads line by line until the first bad one.
-fn read(alloc: Global, bytes: &[u8]) -> Result<Values, Stop>
-    ensures { Reads result (read_text plans bytes.now) }
-{
-    let mut draft = Draft::new(alloc);
-    let mut rest = bytes;
-    let mut line = 1;
-    while !rest.is_empty() {
-        let (text, after) = split_first(rest, b'\n');
-        let Some(after) = after else {
-            return Err(Stop::Bad(line, Cause::Form));
-        };
-        let Some(row) = row_of(text) else {
-            return Err(Stop::Bad(line, Cause::Form));
-        };
-        if let Some(cause) = draft.cause(&row) {
-            return Err(Stop::Bad(line, cause));
-        }
-        draft.add(&row)?;
-        rest = after;
-        line += 1;
-    }
-    if draft.is_ended() {
-        return Ok(draft.into_values());
-    }
-    Err(Stop::Bad(line, Cause::Missing))
-}
 
 /// The values that a text spells, or its least bad line and why it is bad.
 ///
@@ -63,7 +29,7 @@ pub fn parse_values(alloc: Global, bytes: &[u8]) -> ParsedValues
     ensures refused_so { RefusesAll parsed.Bad parsed.NoMemory IsRefusal result bytes.now }
     ensures least { NamesSo parsed.Bad (IsLeastBad IsText) result bytes.now }
 {
-    match read(alloc, bytes) {
+    match read_lines::<Draft>(alloc, bytes) {
         Ok(values) => ParsedValues::Ok(values),
         Err(Stop::Bad(line, cause)) => ParsedValues::Bad { line, cause },
         Err(Stop::Memory) => ParsedValues::NoMemory,

@@ -1,13 +1,14 @@
 use Rattle.std.proofs.Common.{◌≡◌, ◌≤◌, ◌+◌, length}
 use Rattle.line_words.specs.Words.{pieces}
-use Rattle.line_words.specs.LineReading.{read_from, read_text}
+use Rattle.line_words.specs.RefusedReading.{read_from, read_text}
 use Rattle.line_words.proofs.reader.read_lines.Given as goal
 
-abbrev pub invariant-loop-rest : goal.invariant-loop-rest
-invariant-loop-rest g l = record {
+abbrev pub invariant-lines : goal.invariant-lines
+invariant-lines g l = record {
+  sound : g.D.ByLines.IsSound l.draft;
   counted : l.line + length l.rest ≤ length l.bytes + 1;
-  read : read_from g.D.ByLines.reading l.line l.draft (pieces l.rest) ≡ read_text g.D.ByLines.reading l.bytes;
+  read : read_from g.D.ByLines.language l.line (g.D.ByLines.so_far l.draft) (pieces l.rest) ≡ read_text g.D.ByLines.language l.bytes;
 }
 
-abbrev pub decreases-loop-rest : goal.decreases-loop-rest
-decreases-loop-rest g l = length l.rest
+abbrev pub decreases-lines : goal.decreases-lines
+decreases-lines g l = length l.rest
