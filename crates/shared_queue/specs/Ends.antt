@@ -3,6 +3,7 @@ use Rattle.std.specs.Prelude.{◌≡◌, ℕ, ◌+◌, ◌-◌, ◌<◌, List, [
 use mathlib.Core.List.{IsPrefix}
 use Rattle.atomic_table.specs.Table.{Me}
 use Rattle.loop_model.specs.declared.entry.Entry.{Entry}
+use Rattle.loop_model.specs.declared.record.QueueRecord.{QueueRecord}
 use Rattle.loop_model.specs.declared.segment.Segment.{Segment}
 use Rattle.loop_model.specs.Base.{empty_base}
 use Rattle.loop_model.specs.Chain.{after, IsChainFrom, entries_of}
@@ -18,6 +19,11 @@ use Rattle.shared_queue.specs.Claims.{IsAsAccepted, AreClaims}
 use Rattle.shared_queue.specs.Turn.{ArePast, opening_view, new_senders, keeping}
 use Rattle.shared_queue.specs.Known.{Shared, Known, KeepsNone, IsOf, Rests, made_by}
 
+-- the record has what stayed the same in the queue
+pub record KeepsConstants {H : Type 0} (c : Constants H) (r : QueueRecord) : Type 0 where
+  pub looper : r.looper ≡ c.looper
+  pub setting : record { main = r.main; lockstep = r.lockstep; senders = r.senders } ≡ c.setting
+
 module _ {K : Type 0} where
   -- a whole history, and the messages that it leaves
   pub record IsSoundEnd (s : Setting) (entries : List Entry) (left : List (Letter K)) : Type 0 where
@@ -29,6 +35,10 @@ module _ {H K : Type 0} where
   -- poster k is of the queue, and its sender number is k
   abbrev pub AreInOrder : Shared H → List (Known H K) → Type 0
   AreInOrder q posters = (k : ℕ) (d : Known H K) → k < length posters → IsOf (slice_index_or posters k d) q × ((slice_index_or posters k d).sender ≡ k)
+
+  -- these are all posters of the queue, in order
+  abbrev pub AreAllPosters : Shared H → List (Known H K) → Type 0
+  AreAllPosters q posters = (length posters ≡ q.constants.setting.senders) × AreInOrder q posters
 
   -- a poster that has done nothing
   pub record IsNewPoster (p : Known H K) : Type 0 where

@@ -1,12 +1,10 @@
 // How a queue is made, and how it ends.
-ghost use Rattle.std.specs.Prelude.{◌≡◌, ◌+◌, ◌++◌, ◌<◌, [], ◌∷◌, All, length, IfOk};
+ghost use Rattle.std.specs.Prelude.{◌≡◌, ◌+◌, ◌<◌, [], All, length, IfOk};
 ghost use Rattle.message_slot.specs.Letter.{IsAtHome};
 ghost use Rattle.shared_queue.specs.Constants.{constants_of};
 ghost use Rattle.shared_queue.specs.Turn.{IsFirst, opening_view};
 ghost use Rattle.shared_queue.specs.Known.{Rests, IsOf};
-ghost use Rattle.loop_model.specs.Base.{empty_base};
-ghost use Rattle.loop_model.specs.Chain.{IsChainFrom, entries_of};
-ghost use Rattle.shared_queue.specs.Ends.{undealt, IsNewPoster, AreNew, AreInOrder, TakenIn, Gathered, HasCalls, IsSoundEnd, IsLeftBy, AreLeftAsAccepted, IsLast, IsWholeEnd, HaveSealed};
+ghost use Rattle.shared_queue.specs.Ends.{undealt, IsNewPoster, AreNew, AreInOrder, AreAllPosters, TakenIn, Gathered, IsLeftBy, AreLeftAsAccepted, IsLast, IsWholeEnd, KeepsConstants, HaveSealed};
 
 use crate::on_heap::OnHeap;
 use crate::poster::Poster;
@@ -130,7 +128,7 @@ impl<K: Claim, E: Recorder> SharedQueue<K, E> {
     /// Ends the sharing, and hands out the messages that still stood in the queue, in order; what it recorded is let go. It takes all
     /// posters, in the order of their senders. It takes no memory. A rule of this project's profile.
     pub fn close(self, posters: Vec<Poster<K, E>>) -> MsgList<K>
-        requires posters { (length posters.items ≡ self.constants.setting.senders) × AreInOrder self posters.items }
+        requires posters { AreAllPosters self posters.items }
         ensures left { IsLeftBy self.constants.setting posters.items result }
         ensures claims { AreLeftAsAccepted posters.items result }
         ensures home { All (IsAtHome K.home self.constants.home) result }
@@ -141,7 +139,7 @@ impl<K: Claim, E: Recorder> SharedQueue<K, E> {
 
     // The state, once all posters came back.
     fn end(self, posters: Vec<Poster<K, E>>) -> QueueState<K, E>
-        requires posters { (length posters.items ≡ self.constants.setting.senders) × AreInOrder self posters.items }
+        requires posters { AreAllPosters self posters.items }
         ensures { IsLast self.constants posters.items result }
     {
         let seat = self.gather(posters);
@@ -191,16 +189,10 @@ impl<K: Claim> SharedQueue<K, Kept> {
         posters: Vec<Poster<K>>,
         sealed: Vec<Segment>,
     ) -> Result<Retired<K>, NoMemory>
-        requires posters { (length posters.items ≡ self.constants.setting.senders) × AreInOrder self posters.items }
+        requires posters { AreAllPosters self posters.items }
         requires sealed { HaveSealed posters.items sealed.items }
-        ensures looper { IfOk result (λ r. r.kept.looper ≡ self.constants.looper) }
-        ensures setting { IfOk result (λ r. record { main = r.kept.main; lockstep = r.kept.lockstep; senders = r.kept.senders } ≡ self.constants.setting) }
-        ensures parts { IfOk result (λ r. (last : Segment) × (r.kept.segments ≡ sealed.items ++ last ∷ [])) }
-        ensures chain { IfOk result (λ r. IsChainFrom (empty_base self.constants.setting.senders) r.kept.segments) }
-        ensures sound { IfOk result (λ r. IsSoundEnd self.constants.setting (entries_of r.kept.segments) r.left) }
-        ensures posters { IfOk result (λ r. HasCalls (entries_of r.kept.segments) posters.items) }
-        ensures claims { IfOk result (λ r. AreLeftAsAccepted posters.items r.left) }
-        ensures home { IfOk result (λ r. All (IsAtHome K.home self.constants.home) r.left) }
+        ensures kept { IfOk result (λ r. KeepsConstants self.constants r.kept) }
+        ensures end { IfOk result (λ r. IsWholeEnd K.home self.constants posters.items sealed.items r.kept.segments r.left) }
     {
         let traits = self.traits;
         let (segments, left) = self.end_with(posters, sealed)?;
@@ -216,7 +208,7 @@ impl<K: Claim> SharedQueue<K, Kept> {
         posters: Vec<Poster<K>>,
         mut sealed: Vec<Segment>,
     ) -> Result<(Vec<Segment>, MsgList<K>), NoMemory>
-        requires posters { (length posters.items ≡ self.constants.setting.senders) × AreInOrder self posters.items }
+        requires posters { AreAllPosters self posters.items }
         requires sealed { HaveSealed posters.items sealed.items }
         ensures { IfOk result (λ r. IsWholeEnd K.home self.constants posters.items sealed.items r.0.items r.1) }
     {

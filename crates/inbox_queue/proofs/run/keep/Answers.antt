@@ -24,5 +24,5 @@ returns c =
     let kept = c.in_ok-retired.retired.kept in
     let end = c.in_ok-retired.ensures in
     let are = c.in_ok-push-2.ensures.items ∙ ap (λ (l : List Sender). l ++ o.hands.controller ∷ []) c.in_ok-push.ensures.items in
-    as_kept o.place o.hands o.threads.items kept c.requires.at c.requires.idle c.requires.posters c.requires.looper end.looper end.setting end.chain end.sound.legal end.sound.numbered
-    (subst (HasCalls (history_of kept)) are end.posters)
+    as_kept o.place o.hands o.threads.items kept c.requires.at c.requires.idle c.requires.posters c.requires.looper end.kept.looper end.kept.setting end.end.chain end.end.sound.legal end.end.sound.numbered
+    (subst (HasCalls (history_of kept)) are end.end.calls)

@@ -1,24 +1,11 @@
-use Rattle.std.proofs.Common.{sym, ◌∙◌, subst}
-use Rattle.loop_model.specs.Base.{empty_base}
-use Rattle.loop_model.specs.Chain.{IsChainFrom, entries_of}
-use Rattle.shared_queue.specs.Ends.{IsSoundEnd, HasCalls}
+use Rattle.std.proofs.Common.{rules, sym, ◌∙◌, subst}
+use Rattle.shared_queue.specs.Ends.{IsWholeEnd}
 use Rattle.shared_queue.proofs.ends.SharedQueue+K+Kept.retire.Goals as goal
 
-pub returns-clause-parts : goal.returns-clause-parts
-returns-clause-parts g c = let last = c.in_ok-segments.ensures.last in (last.0, c.with_history.ensures.segments ∙ (c.from_vec.ensures ∙ last.1))
+pub returns-clause-kept : goal.returns-clause-kept
+returns-clause-kept g c = record { looper = search rules; setting = search rules }
 
-pub returns-clause-chain : goal.returns-clause-chain
-returns-clause-chain g c = subst (IsChainFrom (empty_base c.args.self.constants.setting.senders)) (sym (c.with_history.ensures.segments ∙ c.from_vec.ensures)) c.in_ok-segments.ensures.chain
-
-pub returns-clause-sound : goal.returns-clause-sound
-returns-clause-sound g c =
-    subst (λ l. IsSoundEnd c.args.self.constants.setting (entries_of l) c.in_ok-segments.left) (sym (c.with_history.ensures.segments ∙ c.from_vec.ensures)) c.in_ok-segments.ensures.sound
-
-pub returns-clause-posters : goal.returns-clause-posters
-returns-clause-posters g c = subst (λ l. HasCalls (entries_of l) c.args.posters.items) (sym (c.with_history.ensures.segments ∙ c.from_vec.ensures)) c.in_ok-segments.ensures.calls
-
-pub returns-clause-claims : goal.returns-clause-claims
-returns-clause-claims g c = c.in_ok-segments.ensures.claims
-
-pub returns-clause-home : goal.returns-clause-home
-returns-clause-home g c = c.in_ok-segments.ensures.home
+pub returns-clause-end : goal.returns-clause-end
+returns-clause-end g c =
+    subst (λ l. IsWholeEnd g.K.Claim.home c.args.self.constants c.args.posters.items c.args.sealed.items l c.in_ok-segments.left)
+    (sym (c.with_history.ensures.segments ∙ c.from_vec.ensures)) c.in_ok-segments.ensures
