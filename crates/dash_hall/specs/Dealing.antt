@@ -1,5 +1,5 @@
 -- How posters and passes come into the senders' kits, and how they are taken back.
-use Rattle.std.specs.Prelude.{◌≡◌, ◌==◌, ◌+◌, ◌<◌, nat_lt, ℕ, zero, suc, List, [], ◌∷◌, ◌++◌, map, length, slice_index_or, All, if◌then◌else◌}
+use Rattle.std.specs.Prelude.{◌≡◌, ◌==◌, ◌+◌, ◌<◌, nat_lt, ℕ, zero, suc, Bool, List, [], ◌∷◌, ◌++◌, map, length, slice_index_or, All, if◌then◌else◌}
 use Rattle.atomic_table.specs.Seated.{TableId}
 use Rattle.dash_script.specs.declared.script.Script.{Script}
 use Rattle.shared_queue.specs.Known.{Shared}
@@ -9,7 +9,8 @@ use Rattle.looper_run.specs.Holding.{Sender}
 use Rattle.choreographer.specs.Known.{Shared as Frames, Known as Pass}
 use Rattle.choreographer.specs.Ends.{AreNew as AreNewPasses, IsNewPass}
 use Rattle.dash_hall.specs.declared.kit.Kit.{Kit}
-use Rattle.dash_hall.specs.Kits.{Badge, badge_of, badge_for, FrameBadge, frame_badge_of, frame_badge_for}
+use Rattle.dash_hall.specs.declared.hall.Hall.{Hall}
+use Rattle.dash_hall.specs.Kits.{IsHall, AreKitsOf, Badge, badge_of, badge_for, FrameBadge, frame_badge_of, frame_badge_for}
 
 -- a poster that has seen nothing and handed nothing out, and a pass that has seen and heard nothing, taken no turn, recorded nothing, handed nothing out,
 -- delivered no pulse and knows of no frame that is to begin
@@ -103,3 +104,13 @@ abbrev pub AreUsedNowhere : List Kit → Type 0
 AreUsedNowhere kits = (k q : ℕ) (d : Kit) → k < length kits
     → ((p : Sender) → q < length (slice_index_or kits k d).posters.items → IsUnusedPoster (slice_index_or (slice_index_or kits k d).posters.items q p))
     × ((p : Pass) → q < length (slice_index_or kits k d).frames.items → IsUnusedPass (slice_index_or (slice_index_or kits k d).frames.items q p))
+
+-- what the senders of a run share, their kits, and the pass of the pool for its end, by none of which anything was done
+pub record IsNewHall (s : Script) (lockstep : Bool) (h : Hall) (ks : List Kit) (p : Tally) : Type 0 where
+  pub hall : IsHall s h
+  pub mode : h.lockstep ≡ lockstep
+  pub kits : AreKitsOf s h ks
+  pub new : AreUsedNowhere ks
+  pub unused : All IsNewKit ks
+  pub pass : p.home ≡ h.pool
+  pub counts : HasCountedNothing p

@@ -7,6 +7,7 @@ use Rattle.message_pool.specs.Passes.{Claimed, Node, Tally}
 use Rattle.queue_state.specs.declared.answers.BarrierPosted.TheVariants as barred
 use Rattle.queue_state.specs.declared.answers.Quitting.{Quitting}
 use Rattle.queue_state.specs.declared.answers.Quitting.TheVariants as quitting
+use Rattle.shared_queue.specs.Known.{Shared, IsOf}
 use Rattle.shared_queue.specs.Calls.{BarrierPostedBy, QuitBy}
 use Rattle.handler_post.specs.Supply.{BringsBack}
 use Rattle.looper_run.specs.Holding.{Sender}
@@ -18,6 +19,12 @@ use Rattle.dash_hall.specs.Slots.{LosesNoSlot}
 -- the entries that a poster has made
 abbrev pub own : Sender → List Entry
 own p = entries_by p.sender p.view.seen
+
+-- the poster is one of the queue, the pass is one of the pool, and the queue's messages are the pool's
+pub record MayCall (q : Shared TableId) (pool : TableId) (poster : Sender) (tally : Tally) : Type 0 where
+  pub queue : IsOf poster q
+  pub pass : tally.home ≡ pool
+  pub home : q.constants.home ≡ pool
 
 -- the same sender of the same queue, with the same pool, which has seen more and may have taken turns; it rang no bell and read none, made no look for a
 -- message, handed nothing out, and lost no slot

@@ -1,5 +1,5 @@
 -- The calls that are made by handlers.
-use Rattle.std.specs.Prelude.{ℕ, Bool, true, false, Option, Some, None, List, [], ◌∷◌}
+use Rattle.std.specs.Prelude.{◌≡◌, ℕ, Bool, true, false, Option, Some, None, is_some, List, [], ◌∷◌, Result, IfOk, OnErr}
 use Rattle.loop_model.specs.declared.call.Call.{Call}
 use Rattle.loop_model.specs.declared.call.Call.TheVariants.{Post, Remove, Barrier, Unbarrier, Quit}
 use Rattle.loop_model.specs.declared.post.Kind.TheVariants as kind
@@ -24,7 +24,7 @@ abbrev pub call_by : Handler → Request → Call
 call_by h (request.Send what arg obj when) = Post (message_by h what arg obj when)
 call_by h (request.SendAsync what when) = Post (record (message_by h what 0 None when) { asynchronous = true })
 call_by h (request.SendFront what) = Post (message_by h what 0 None 0)
-call_by h (request.PostCallback id now delay) = Post (callback_by h id (moment_after now delay))
+call_by h (request.PostCallback id now delay) = Post (callback_by h id None (moment_after now delay))
 call_by h (request.RemoveMessages what) = Remove (filter_by h (kind.What what) None)
 call_by h (request.RemoveCallbacks id) = Remove (filter_by h (kind.Callback id) None)
 call_by h request.RemoveAll = Remove (filter_by h kind.All None)
@@ -71,3 +71,9 @@ IsRefusedQuit (on_queue.ByHandler handler request) before after = Unit {0}
 IsRefusedQuit (on_queue.PostBarrier now) before after = Unit {0}
 IsRefusedQuit (on_queue.RemoveBarrier barrier) before after = Unit {0}
 IsRefusedQuit (on_queue.Quit safe now) before after = QuitBy before after safe now quitting.NoMemory
+
+-- by its answer: where memory was wanting a quit was refused; where a call was made it was made at its moment, and has a token just where it posts a barrier
+pub record AnswersCall {E : Type 0} (call : QueueCall) (before after : Sender) (result : Result (Option ℕ) E) : Type 0 where
+  pub refused : OnErr result (IsRefusedQuit call before after)
+  pub token : IfOk result (λ token. is_some token ≡ posts_barrier call)
+  pub moment : IfOk result (λ token. IsAtItsMoment call token before after)

@@ -1,9 +1,7 @@
 //! One call of a sender on a queue.
-ghost use Rattle.std.specs.Prelude.{◌≡◌, is_some, IfOk, OnErr};
 ghost use Rattle.handler_post.specs.Ways.{IsReady};
-ghost use Rattle.shared_queue.specs.Known.{IsOf};
-ghost use Rattle.dash_hall.specs.Growth.{Called, WayCalled};
-ghost use Rattle.dash_hall.specs.Requests.{call_made, tokens_of, posts_barrier, IsAtItsMoment, IsRefusedQuit};
+ghost use Rattle.dash_hall.specs.Growth.{Called, WayCalled, MayCall};
+ghost use Rattle.dash_hall.specs.Requests.{call_made, tokens_of, AnswersCall};
 
 use crate::barriers::{post_barrier, quit, remove_barrier};
 use crate::handlers::{Request, make};
@@ -36,9 +34,7 @@ pub(crate) fn perform<R: Wait>(
 ) -> Result<Option<u64>, NoMemory>
     requires { IsReady way.old }
     ensures called { WayCalled way.old way.new (call_made call) tokens_of result }
-    ensures refused { OnErr result (IsRefusedQuit call way.old.poster.now way.new.poster.now) }
-    ensures token { IfOk result (λ token. is_some token ≡ posts_barrier call) }
-    ensures moment { IfOk result (λ token. IsAtItsMoment call token way.old.poster.now way.new.poster.now) }
+    ensures answered { AnswersCall call way.old.poster.now way.new.poster.now result }
 {
     match call {
         QueueCall::ByHandler { handler, request } => {
@@ -71,13 +67,9 @@ pub fn perform_by<R: Wait>(
     pass: &mut PoolPass,
     call: QueueCall,
 ) -> Result<Option<u64>, NoMemory>
-    requires queue { IsOf poster.old queue.now }
-    requires pass { pass.old.home ≡ pool.now }
-    requires home { queue.now.constants.home ≡ pool.now }
+    requires { MayCall queue.now pool.now poster.old pass.old }
     ensures called { Called poster.old poster.new pass.old pass.new (call_made call) tokens_of result }
-    ensures refused { OnErr result (IsRefusedQuit call poster.old poster.new) }
-    ensures token { IfOk result (λ token. is_some token ≡ posts_barrier call) }
-    ensures moment { IfOk result (λ token. IsAtItsMoment call token poster.old poster.new) }
+    ensures answered { AnswersCall call poster.old poster.new result }
 {
     let mut way = Way {
         queue,

@@ -1,8 +1,8 @@
 //! What the senders of a run share.
 ghost use Rattle.std.specs.Prelude.{◌≡◌, ◌<◌, ◌+◌, [], ◌∷◌, map, length, All, IfOk, OnOk};
 ghost use Rattle.run_model.specs.Senders.{sender_count};
-ghost use Rattle.dash_hall.specs.Kits.{IsHall, AreKitsOf, AreQueuesOf, AreChoreographersOf, queue_constants, frame_constants, badge_for, frames_for};
-ghost use Rattle.dash_hall.specs.Dealing.{IsEmptyKit, EachGets, nothing, DealsPosters, DealsPasses, given_of, holder_of, HasCountedNothing, IsNewKit, AreUsedNowhere};
+ghost use Rattle.dash_hall.specs.Kits.{AreQueuesOf, AreChoreographersOf, queue_constants, frame_constants, badge_for, frames_for};
+ghost use Rattle.dash_hall.specs.Dealing.{IsEmptyKit, EachGets, nothing, DealsPosters, DealsPasses, given_of, holder_of, HasCountedNothing, IsNewHall};
 
 use crate::kit::Kit;
 use crate::stop::Stop;
@@ -44,13 +44,7 @@ pub fn open(
     lockstep: bool,
 ) -> Result<(Hall, Vec<Kit>, PoolPass), NoMemory>
     requires { (script.now.threads + script.now.loopers < 100) × (0 < script.now.period) }
-    ensures hall { IfOk result (λ r. IsHall script.now r.0) }
-    ensures mode { IfOk result (λ r. r.0.lockstep ≡ lockstep) }
-    ensures kits { IfOk result (λ r. AreKitsOf script.now r.0 r.1.items) }
-    ensures new { IfOk result (λ r. AreUsedNowhere r.1.items) }
-    ensures unused { IfOk result (λ r. All IsNewKit r.1.items) }
-    ensures pass { IfOk result (λ r. r.2.home ≡ r.0.pool) }
-    ensures counts { IfOk result (λ r. HasCountedNothing r.2) }
+    ensures { IfOk result (λ r. IsNewHall script.now lockstep r.0 r.1.items r.2) }
 {
     let (pool, mut pass) = Pool::new(alloc)?;
     let senders = script.threads + script.loopers + 1;

@@ -10,14 +10,9 @@ abbrev pub message_by : Handler → ℕ → ℕ → Option ℕ → ℕ → Post
 message_by h what arg obj when =
     record { handler = h.id; what = what; arg = arg; obj = obj; callback = None; when = when; asynchronous = h.asynchronous; slot = None }
 
--- a callback of this handler
-abbrev pub callback_by : Handler → ℕ → ℕ → Post
-callback_by h callback when =
-    record { handler = h.id; what = 0; arg = 0; obj = None; callback = Some callback; when = when; asynchronous = h.asynchronous; slot = None }
-
--- a callback of this handler with a token
-abbrev pub callback_with : Handler → ℕ → Option ℕ → ℕ → Post
-callback_with h callback token when =
+-- a callback of this handler, with the token by which it may be removed
+abbrev pub callback_by : Handler → ℕ → Option ℕ → ℕ → Post
+callback_by h callback token when =
     record { handler = h.id; what = 0; arg = 0; obj = token; callback = Some callback; when = when; asynchronous = h.asynchronous; slot = None }
 
 -- messages of this handler

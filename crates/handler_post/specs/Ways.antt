@@ -38,3 +38,9 @@ pub record IsSameWay {R P : Type 0} (before after : Way R P) : Type 0 where
 -- no entry was made: there was no turn, or one that left what it found
 abbrev pub MadeNone : Sender → Sender → Type 0
 MadeNone before after = (after ≡ before) ⊎ ((x : State) × IsTurn before after x x)
+
+-- a call by a way did this, and the way is ready again and the same
+pub record ByWay {R P A : Type 0} (Does : Way R P → Way R P → A → Type 0) (before after : Way R P) (result : A) : Type 0 where
+  pub ready : IsReady after
+  pub same : IsSameWay before after
+  pub did : Does before after result

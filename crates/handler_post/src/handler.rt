@@ -2,8 +2,8 @@
 ghost use Rattle.std.specs.Prelude.{◌≡◌, None, false, true};
 ghost use Rattle.loop_model.specs.declared.post.Kind.TheVariants.{What, Callback, All};
 ghost use Rattle.loop_model.specs.Posts.{moment_after};
-ghost use Rattle.handler_post.specs.Forms.{message_by, callback_by, callback_with, filter_by};
-ghost use Rattle.handler_post.specs.Ways.{IsReady, IsSameWay};
+ghost use Rattle.handler_post.specs.Forms.{message_by, callback_by, filter_by};
+ghost use Rattle.handler_post.specs.Ways.{IsReady, ByWay};
 ghost use Rattle.handler_post.specs.Sends.{Sends, Erases, Has};
 
 use crate::way::{Erased, Sent, Way, erase, send};
@@ -59,17 +59,8 @@ impl Handler {
         }
     }
 
-    fn callback(&self, callback: u64, when: u64) -> Post
-        ensures { result ≡ callback_by self.now callback when }
-    {
-        Post {
-            callback: Some(callback),
-            ..self.message(0, 0, None, when)
-        }
-    }
-
-    fn callback_with(&self, callback: u64, token: Option<u64>, when: u64) -> Post
-        ensures { result ≡ callback_with self.now callback token when }
+    fn callback(&self, callback: u64, token: Option<u64>, when: u64) -> Post
+        ensures { result ≡ callback_by self.now callback token when }
     {
         Post {
             callback: Some(callback),
@@ -98,9 +89,9 @@ impl Handler {
     /// A callback of this handler, which is due once it is posted (`Message.obtain` of a `Runnable`). Its object is the token by which
     /// it may be removed.
     pub fn runnable(&self, callback: u64) -> Post
-        ensures { result ≡ callback_by self.now callback 0 }
+        ensures { result ≡ callback_by self.now callback None 0 }
     {
-        self.callback(callback, 0)
+        self.callback(callback, None, 0)
     }
 
     /// This handler's messages with this `what`, for a removal or a question.
@@ -136,9 +127,7 @@ impl Handler {
         now: u64,
     ) -> Sent
         requires { IsReady way.old }
-        ensures ready { IsReady way.new }
-        ensures same { IsSameWay way.old way.new }
-        ensures sent { Sends (message_by self.now what arg obj now) way.old way.new result }
+        ensures { ByWay (Sends (message_by self.now what arg obj now)) way.old way.new result }
     {
         send(rt, alloc, way, &self.message(what, arg, obj, now))
     }
@@ -155,9 +144,7 @@ impl Handler {
         when: u64,
     ) -> Sent
         requires { IsReady way.old }
-        ensures ready { IsReady way.new }
-        ensures same { IsSameWay way.old way.new }
-        ensures sent { Sends (message_by self.now what arg obj when) way.old way.new result }
+        ensures { ByWay (Sends (message_by self.now what arg obj when)) way.old way.new result }
     {
         send(rt, alloc, way, &self.message(what, arg, obj, when))
     }
@@ -174,9 +161,7 @@ impl Handler {
         when: u64,
     ) -> Sent
         requires { IsReady way.old }
-        ensures ready { IsReady way.new }
-        ensures same { IsSameWay way.old way.new }
-        ensures sent { Sends (record (message_by self.now what arg None when) { asynchronous = true }) way.old way.new result }
+        ensures { ByWay (Sends (record (message_by self.now what arg None when) { asynchronous = true })) way.old way.new result }
     {
         let post = Post {
             asynchronous: true,
@@ -199,9 +184,7 @@ impl Handler {
         delay: u64,
     ) -> Sent
         requires { IsReady way.old }
-        ensures ready { IsReady way.new }
-        ensures same { IsSameWay way.old way.new }
-        ensures sent { Sends (message_by self.now what arg obj (moment_after now delay)) way.old way.new result }
+        ensures { ByWay (Sends (message_by self.now what arg obj (moment_after now delay))) way.old way.new result }
     {
         let when = now.saturating_add(delay);
         send(rt, alloc, way, &self.message(what, arg, obj, when))
@@ -220,9 +203,7 @@ impl Handler {
         delay: u64,
     ) -> Sent
         requires { IsReady way.old }
-        ensures ready { IsReady way.new }
-        ensures same { IsSameWay way.old way.new }
-        ensures sent { Sends (record (message_by self.now what arg None (moment_after now delay)) { asynchronous = true }) way.old way.new result }
+        ensures { ByWay (Sends (record (message_by self.now what arg None (moment_after now delay)) { asynchronous = true })) way.old way.new result }
     {
         let when = now.saturating_add(delay);
         self.send_async_at(rt, alloc, way, what, arg, when)
@@ -239,9 +220,7 @@ impl Handler {
         obj: Option<u64>,
     ) -> Sent
         requires { IsReady way.old }
-        ensures ready { IsReady way.new }
-        ensures same { IsSameWay way.old way.new }
-        ensures sent { Sends (message_by self.now what arg obj 0) way.old way.new result }
+        ensures { ByWay (Sends (message_by self.now what arg obj 0)) way.old way.new result }
     {
         send(rt, alloc, way, &self.message(what, arg, obj, 0))
     }
@@ -256,11 +235,9 @@ impl Handler {
         now: u64,
     ) -> Sent
         requires { IsReady way.old }
-        ensures ready { IsReady way.new }
-        ensures same { IsSameWay way.old way.new }
-        ensures sent { Sends (callback_by self.now callback now) way.old way.new result }
+        ensures { ByWay (Sends (callback_by self.now callback None now)) way.old way.new result }
     {
-        send(rt, alloc, way, &self.callback(callback, now))
+        send(rt, alloc, way, &self.callback(callback, None, now))
     }
 
     /// Posts a callback that is due `delay` milliseconds after `now`, or at the last moment where that lies behind it
@@ -275,12 +252,10 @@ impl Handler {
         delay: u64,
     ) -> Sent
         requires { IsReady way.old }
-        ensures ready { IsReady way.new }
-        ensures same { IsSameWay way.old way.new }
-        ensures sent { Sends (callback_by self.now callback (moment_after now delay)) way.old way.new result }
+        ensures { ByWay (Sends (callback_by self.now callback None (moment_after now delay))) way.old way.new result }
     {
         let when = now.saturating_add(delay);
-        send(rt, alloc, way, &self.callback(callback, when))
+        send(rt, alloc, way, &self.callback(callback, None, when))
     }
 
     /// Posts a callback that is due at `when`, in milliseconds, with a token by which it may be removed (`postAtTime`).
@@ -294,11 +269,9 @@ impl Handler {
         when: u64,
     ) -> Sent
         requires { IsReady way.old }
-        ensures ready { IsReady way.new }
-        ensures same { IsSameWay way.old way.new }
-        ensures sent { Sends (callback_with self.now callback token when) way.old way.new result }
+        ensures { ByWay (Sends (callback_by self.now callback token when)) way.old way.new result }
     {
-        send(rt, alloc, way, &self.callback_with(callback, token, when))
+        send(rt, alloc, way, &self.callback(callback, token, when))
     }
 
     /// Posts a callback that is due `delay` milliseconds after `now`, or at the last moment where that lies behind it, with a token
@@ -314,9 +287,7 @@ impl Handler {
         delay: u64,
     ) -> Sent
         requires { IsReady way.old }
-        ensures ready { IsReady way.new }
-        ensures same { IsSameWay way.old way.new }
-        ensures sent { Sends (callback_with self.now callback token (moment_after now delay)) way.old way.new result }
+        ensures { ByWay (Sends (callback_by self.now callback token (moment_after now delay))) way.old way.new result }
     {
         let when = now.saturating_add(delay);
         self.post_at_time(rt, alloc, way, callback, token, when)
@@ -331,11 +302,9 @@ impl Handler {
         callback: u64,
     ) -> Sent
         requires { IsReady way.old }
-        ensures ready { IsReady way.new }
-        ensures same { IsSameWay way.old way.new }
-        ensures sent { Sends (callback_by self.now callback 0) way.old way.new result }
+        ensures { ByWay (Sends (callback_by self.now callback None 0)) way.old way.new result }
     {
-        send(rt, alloc, way, &self.callback(callback, 0))
+        send(rt, alloc, way, &self.callback(callback, None, 0))
     }
 
     /// Removes this handler's messages with this `what`, and with this object where one is named (`removeMessages`). A posted
@@ -348,9 +317,7 @@ impl Handler {
         obj: Option<u64>,
     ) -> Erased
         requires { IsReady way.old }
-        ensures ready { IsReady way.new }
-        ensures same { IsSameWay way.old way.new }
-        ensures erased { Erases (filter_by self.now (What what) obj) way.old way.new result }
+        ensures { ByWay (Erases (filter_by self.now (What what) obj)) way.old way.new result }
     {
         erase(rt, way, &self.filter(Kind::What(what), obj))
     }
@@ -364,9 +331,7 @@ impl Handler {
         obj: Option<u64>,
     ) -> Erased
         requires { IsReady way.old }
-        ensures ready { IsReady way.new }
-        ensures same { IsSameWay way.old way.new }
-        ensures erased { Erases (filter_by self.now (Callback callback) obj) way.old way.new result }
+        ensures { ByWay (Erases (filter_by self.now (Callback callback) obj)) way.old way.new result }
     {
         erase(rt, way, &self.filter(Kind::Callback(callback), obj))
     }
@@ -380,9 +345,7 @@ impl Handler {
         obj: Option<u64>,
     ) -> Erased
         requires { IsReady way.old }
-        ensures ready { IsReady way.new }
-        ensures same { IsSameWay way.old way.new }
-        ensures erased { Erases (filter_by self.now All obj) way.old way.new result }
+        ensures { ByWay (Erases (filter_by self.now All obj)) way.old way.new result }
     {
         erase(rt, way, &self.filter(Kind::All, obj))
     }
@@ -397,12 +360,9 @@ impl Handler {
         obj: Option<u64>,
     ) -> bool
         requires { IsReady way.old }
-        ensures ready { IsReady way.new }
-        ensures same { IsSameWay way.old way.new }
-        ensures has { Has (filter_by self.now (What what) obj) way.old way.new result }
+        ensures { ByWay (Has (filter_by self.now (What what) obj)) way.old way.new result }
     {
-        way.poster
-            .has(rt, way.queue, &self.filter(Kind::What(what), obj))
+        way.has(rt, &self.filter(Kind::What(what), obj))
     }
 
     /// Whether a post of this callback by this handler, and with this token where one is named, stands in the queue
@@ -415,11 +375,9 @@ impl Handler {
         token: Option<u64>,
     ) -> bool
         requires { IsReady way.old }
-        ensures ready { IsReady way.new }
-        ensures same { IsSameWay way.old way.new }
-        ensures has { Has (filter_by self.now (Callback callback) token) way.old way.new result }
+        ensures { ByWay (Has (filter_by self.now (Callback callback) token)) way.old way.new result }
     {
-        way.poster.has(rt, way.queue, &self.filter(Kind::Callback(callback), token))
+        way.has(rt, &self.filter(Kind::Callback(callback), token))
     }
 
     /// Whether any message or callback of this handler, and with this object where one is named, stands in the queue
@@ -431,10 +389,8 @@ impl Handler {
         obj: Option<u64>,
     ) -> bool
         requires { IsReady way.old }
-        ensures ready { IsReady way.new }
-        ensures same { IsSameWay way.old way.new }
-        ensures has { Has (filter_by self.now All obj) way.old way.new result }
+        ensures { ByWay (Has (filter_by self.now All obj)) way.old way.new result }
     {
-        way.poster.has(rt, way.queue, &self.filter(Kind::All, obj))
+        way.has(rt, &self.filter(Kind::All, obj))
     }
 }

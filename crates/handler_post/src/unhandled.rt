@@ -1,8 +1,7 @@
 //! The calls by a way that name no handler: posts and filters as they are, barriers, and quits.
-ghost use Rattle.std.specs.Prelude.{◌≤◌, IfOk, OnErr};
-ghost use Rattle.handler_post.specs.Ways.{IsReady, IsSameWay, MadeNone};
+ghost use Rattle.handler_post.specs.Ways.{IsReady, ByWay};
 ghost use Rattle.handler_post.specs.Sends.{Sends, Erases, Has, Idles};
-ghost use Rattle.handler_post.specs.Unhandled.{Bars, Unbars, Quits};
+ghost use Rattle.handler_post.specs.Unhandled.{WayBars, WayUnbars, Quits};
 
 use crate::supply::recycle_all;
 use crate::way::{Erased, Sent, Way, erase, send};
@@ -29,9 +28,7 @@ impl<'a, E: Recorder, P: Payload> Way<'a, E, P> {
     /// Posts this, whatever handler it names. A message that the queue doesn't keep is recycled (`enqueueMessage`).
     pub fn send<R: Wait>(&mut self, rt: &R, alloc: Global, post: &Post) -> Sent
         requires { IsReady self.old }
-        ensures ready { IsReady self.new }
-        ensures same { IsSameWay self.old self.new }
-        ensures sent { Sends post.now self.old self.new result }
+        ensures { ByWay (Sends post.now) self.old self.new result }
     {
         send(rt, alloc, self, post)
     }
@@ -39,9 +36,7 @@ impl<'a, E: Recorder, P: Payload> Way<'a, E, P> {
     /// Removes the messages that the filter names, and recycles them.
     pub fn remove<R: Wait>(&mut self, rt: &R, filter: &Filter) -> Erased
         requires { IsReady self.old }
-        ensures ready { IsReady self.new }
-        ensures same { IsSameWay self.old self.new }
-        ensures erased { Erases filter.now self.old self.new result }
+        ensures { ByWay (Erases filter.now) self.old self.new result }
     {
         erase(rt, self, filter)
     }
@@ -49,9 +44,7 @@ impl<'a, E: Recorder, P: Payload> Way<'a, E, P> {
     /// Whether a message that the filter names stands in the queue. It makes no entry.
     pub fn has<R: Wait>(&mut self, rt: &R, filter: &Filter) -> bool
         requires { IsReady self.old }
-        ensures ready { IsReady self.new }
-        ensures same { IsSameWay self.old self.new }
-        ensures has { Has filter.now self.old self.new result }
+        ensures { ByWay (Has filter.now) self.old self.new result }
     {
         self.poster.has(rt, self.queue, filter)
     }
@@ -60,9 +53,7 @@ impl<'a, E: Recorder, P: Payload> Way<'a, E, P> {
     /// (`isIdle` of the Android API reference's `MessageQueue`). It makes no entry.
     pub fn is_idle<R: Wait>(&mut self, rt: &R, now: u64) -> bool
         requires { IsReady self.old }
-        ensures ready { IsReady self.new }
-        ensures same { IsSameWay self.old self.new }
-        ensures idle { Idles now self.old self.new result }
+        ensures { ByWay (Idles now) self.old self.new result }
     {
         self.poster.is_idle(rt, self.queue, now)
     }
@@ -76,11 +67,7 @@ impl<'a, E: Recorder, P: Payload> Way<'a, E, P> {
         now: u64,
     ) -> Result<u64, NoMemory>
         requires { IsReady self.old }
-        ensures ready { IsReady self.new }
-        ensures same { IsSameWay self.old self.new }
-        ensures barred { IfOk result (λ token. Bars now token self.old self.new) }
-        ensures none { OnErr result (MadeNone self.old.poster.now self.new.poster.now) }
-        ensures back { self.old.pass.now.back ≤ self.new.pass.now.back }
+        ensures { ByWay (WayBars now) self.old self.new result }
     {
         let node = match self.pool.obtain(alloc, self.pass) {
             Obtained::Pooled(node) => node,
@@ -100,11 +87,7 @@ impl<'a, E: Recorder, P: Payload> Way<'a, E, P> {
     /// (`removeSyncBarrier`). NoMemory where the entry found none; then it made none.
     pub fn remove_barrier<R: Wait>(&mut self, rt: &R, token: u64) -> Result<bool, NoMemory>
         requires { IsReady self.old }
-        ensures ready { IsReady self.new }
-        ensures same { IsSameWay self.old self.new }
-        ensures unbarred { IfOk result (λ was. Unbars token was self.old self.new) }
-        ensures none { OnErr result (MadeNone self.old.poster.now self.new.poster.now) }
-        ensures back { self.old.pass.now.back ≤ self.new.pass.now.back }
+        ensures { ByWay (WayUnbars token) self.old self.new result }
     {
         match self.poster.remove_barrier(rt, self.queue, token) {
             BarrierGone::Unbarriered { node, .. } => {
@@ -120,9 +103,7 @@ impl<'a, E: Recorder, P: Payload> Way<'a, E, P> {
     /// nothing (`quit`).
     pub fn quit<R: Wait>(&mut self, rt: &R, safe: bool, now: u64) -> Quit
         requires { IsReady self.old }
-        ensures ready { IsReady self.new }
-        ensures same { IsSameWay self.old self.new }
-        ensures quits { Quits safe now self.old self.new result }
+        ensures { ByWay (Quits safe now) self.old self.new result }
     {
         match self.poster.quit(rt, self.queue, safe, now) {
             Quitting::Done(left) => {

@@ -2,7 +2,7 @@
 ghost use Rattle.std.specs.Prelude.{◌≡◌, IfOk, IfErr};
 ghost use Rattle.message_pool.specs.Obtain.{IsNodeOf, Returned};
 ghost use Rattle.message_pool.specs.Values.{content_of, content_in};
-ghost use Rattle.handler_post.specs.Ways.{IsReady, IsSameWay};
+ghost use Rattle.handler_post.specs.Ways.{IsReady, ByWay};
 ghost use Rattle.handler_post.specs.Supply.{NoneWasFree};
 ghost use Rattle.handler_post.specs.Values.{IsLoaded, SendsWith};
 
@@ -81,9 +81,7 @@ impl<'a, E: Recorder, P: Payload> Way<'a, E, P> {
         value: P,
     ) -> SentWith<P>
         requires { IsReady self.old }
-        ensures ready { IsReady self.new }
-        ensures same { IsSameWay self.old self.new }
-        ensures sent { SendsWith P.content post.now value self.old self.new result }
+        ensures { ByWay (SendsWith P.content post.now value) self.old self.new result }
     {
         let node = match message_with(alloc, self.pool, self.pass, post, value) {
             Ok(node) => node,

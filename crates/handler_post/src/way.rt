@@ -1,5 +1,5 @@
 //! What a form of a handler works on, and how it ends.
-ghost use Rattle.handler_post.specs.Ways.{IsReady, IsSameWay};
+ghost use Rattle.handler_post.specs.Ways.{IsReady, ByWay};
 ghost use Rattle.handler_post.specs.Sends.{Sends, Erases};
 
 use crate::supply::{message_of, recycle_all};
@@ -52,9 +52,7 @@ pub(crate) fn send<R: Wait, E: Recorder, P: Payload>(
     post: &Post,
 ) -> Sent
     requires { IsReady way.old }
-    ensures ready { IsReady way.new }
-    ensures same { IsSameWay way.old way.new }
-    ensures sent { Sends post.now way.old way.new result }
+    ensures { ByWay (Sends post.now) way.old way.new result }
 {
     let Some(node) = message_of(alloc, way.pool, way.pass, post) else {
         return Sent::NoMemory;
@@ -79,9 +77,7 @@ pub(crate) fn erase<R: Wait, E: Recorder, P: Payload>(
     filter: &Filter,
 ) -> Erased
     requires { IsReady way.old }
-    ensures ready { IsReady way.new }
-    ensures same { IsSameWay way.old way.new }
-    ensures erased { Erases filter.now way.old way.new result }
+    ensures { ByWay (Erases filter.now) way.old way.new result }
 {
     match way.poster.remove(rt, way.queue, filter) {
         Taking::Removed(nodes) => {
