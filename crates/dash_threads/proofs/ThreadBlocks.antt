@@ -12,8 +12,8 @@ use Rattle.dash_script.specs.declared.script.Block.{Block}
 use Rattle.std.proofs.lemmas.Grind.{flat_map-append}
 use Rattle.dash_hall.specs.declared.hall.Hall.{Hall}
 use Rattle.dash_threads.specs.declared.thread.PostingThread.{PostingThread}
-use Rattle.dash_threads.specs.Threads.{IsUpTo, Takes, Continues, one_pass_more, passes_more, HasPassed}
-use Rattle.dash_threads.specs.AtWork.{RunsUnlessGivenUp}
+use Rattle.dash_threads.specs.Threads.{IsUpTo, Takes, Continues, one_pass_more, passes_more}
+use Rattle.dash_threads.specs.AtWork.{RunsUnlessGivenUp, RunsLines}
 use Rattle.dash_threads.proofs.ThreadLabels.{at_time}
 
 -- the lines of a thread among these, at a time
@@ -103,10 +103,8 @@ runs_on s hall t z v was is = record {
 }
 
 -- how far a thread has come in the lines of a block
-pub record IsAtLine (m : Mode) (s : Script) (hall : Hall) (b : Block) (i : ℕ) (t z : PostingThread) : Type 0 where
-  pub runs : RunsUnlessGivenUp s hall t z
-  pub made : z.gave_up ≡ false → HasRun m s b.time b.lines (take i b.lines) t z
-  pub passed : HasPassed (timed_in t.number b.time (take i b.lines)) t z
+abbrev pub IsAtLine : Mode → Script → Hall → Block → ℕ → PostingThread → PostingThread → Type 0
+IsAtLine m s hall b i t z = RunsLines s hall (timed_in t.number b.time (take i b.lines)) (HasRun m s b.time b.lines (take i b.lines)) t z
 
 abbrev pub no_line : Line
 no_line = record { thread = 0; command = Post 0 0 0 }
@@ -138,13 +136,15 @@ module _ (m : Mode) (s : Script) (hall : Hall) (b : Block) (i : ℕ) (t z : Post
   }
 
 -- all lines of the block
-pub past_lines : (m : Mode) (s : Script) (hall : Hall) (b : Block) (i : ℕ) (t z : PostingThread) (ls : List Line) → ls ≡ b.lines → length ls ≤ i → IsAtLine m s hall b i t z → z.gave_up ≡ false → Continues m s b t z
-past_lines m s hall b i t z ls same far at going = λ past rest are up.
-    subst (λ (xs : List Line). IsUpTo m s (past ++ timed_in t.number b.time xs) z) (take_all i b.lines (subst (λ (xs : List Line). length xs ≤ i) same far)) (at.made going past rest are up)
-
-pub past_passed : (m : Mode) (s : Script) (hall : Hall) (b : Block) (i : ℕ) (t z : PostingThread) (ls : List Line) → ls ≡ b.lines → length ls ≤ i → IsAtLine m s hall b i t z → HasPassed (lines_in t.number b) t z
-past_passed m s hall b i t z ls same far at going =
-    at.passed going ∙ ap (λ (xs : List Line). passes_more (length (timed_in t.number b.time xs)) t.passed) (take_all i b.lines (subst (λ (xs : List Line). length xs ≤ i) same far))
+pub past_lines : (m : Mode) (s : Script) (hall : Hall) (b : Block) (i : ℕ) (t z : PostingThread) (ls : List Line) → ls ≡ b.lines → length ls ≤ i → IsAtLine m s hall b i t z
+    → RunsLines s hall (lines_in t.number b) (Continues m s b) t z
+past_lines m s hall b i t z ls same far at =
+    let all = take_all i b.lines (subst (λ (xs : List Line). length xs ≤ i) same far) in
+    record {
+      runs = at.runs;
+      made = λ going past rest are up. subst (λ (xs : List Line). IsUpTo m s (past ++ timed_in t.number b.time xs) z) all (at.made going past rest are up);
+      passed = λ going. at.passed going ∙ ap (λ (xs : List Line). passes_more (length (timed_in t.number b.time xs)) t.passed) all;
+    }
 
 -- one block more of all
 pub block_goes_on : (m : Mode) (s : Script) (i : ℕ) (d b : Block) (t u v : PostingThread) → i < length s.blocks → b ≡ get_or s.blocks i d → u.number ≡ t.number

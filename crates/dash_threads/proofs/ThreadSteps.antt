@@ -12,13 +12,28 @@ use Rattle.run_model.specs.Moments.{Mode, IfFree, IsUptime, IsMoment}
 use Rattle.run_model.specs.Planned.{Timed, planned, lines_on, MakeCalls, IsNoEarlier}
 use Rattle.run_model.proofs.RunLaws.{MakeCalls-line, MakeCalls-skip}
 use Rattle.dash_hall.specs.declared.calls.QueueCall.{QueueCall}
+use Rattle.dash_hall.specs.declared.hall.Hall.{Hall}
 use Rattle.dash_hall.proofs.Clocking.{if_free}
-use Rattle.dash_threads.specs.Threads.{Performs, CallsAt}
+use Rattle.dash_hall.proofs.PassesHearing.{passes_heard_self}
+use Rattle.dash_threads.specs.declared.thread.PostingThread.{PostingThread}
+use Rattle.dash_threads.specs.AtWork.{WorksOn, RingsBells}
+use Rattle.dash_threads.specs.Threads.{IsThread, Performs, CallsAt, rungs_of}
 use Rattle.dash_threads.proofs.ThreadPlans.{at_each_uptime, is_some_mapped}
 
 pub on_ok : {A E : Type 0} (r : Result A E) (P Q : Type 0) → (P → Q) → OnOk r P → OnOk r Q
 on_ok (Ok x) P Q f h = f h
 on_ok (Err e) P Q f h = tt
+
+-- a thread that did nothing works on, and rang no bell
+pub works_still : (s : Script) (h : Hall) (t : PostingThread) → IsThread s h t → WorksOn s h t t
+works_still s h t is = record { thread = is; number = refl; passed = refl; goes = refl; bells = refl }
+
+pub rings_none : (s : Script) (h : Hall) (t : PostingThread) (rungs : List ℕ) → IsThread s h t → rungs_of t ≡ rungs → RingsBells s h rungs t t
+rings_none s h t rungs is same = record {
+  thread = is;
+  kept = record { number = refl; posters = refl; pass = refl; frames = passes_heard_self t.kit.frames.items; barriers = refl; passed = refl; gave_up = refl };
+  rung = same;
+}
 
 pub ok_from : {A E : Type 0} (r : Result A E) (P : Type 0) → P → OnOk r P
 ok_from (Ok x) P h = h

@@ -93,6 +93,10 @@ abbrev pub TakesAt : Bool → Script → ℕ → Command → PostingThread → P
 TakesAt lockstep s u command before after = (m : Mode) (time : ℕ) → IfFree m (lockstep ≡ false) → IsUptime m time u
     → Takes m s (record { time = time; command = command }) before after
 
+-- so it has at each uptime
+abbrev pub TakesAtAny : Bool → Script → Command → PostingThread → PostingThread → Type 0
+TakesAtAny lockstep s command before after = (u : ℕ) → TakesAt lockstep s u command before after
+
 -- the sender made this call at its moment, which was answered this token, and has seen what it had seen and maybe more
 pub record Performs (call : QueueCall) (token : Option ℕ) (before after : Sender) : Type 0 where
   pub sender : after.sender ≡ before.sender

@@ -2,8 +2,8 @@
 ghost use Rattle.std.specs.Prelude.{◌≡◌, true, false, IfOk, IfErr};
 ghost use Rattle.run_model.specs.Moments.{in_free_mode, IsUptime};
 ghost use Rattle.run_model.specs.Planned.{lines_in, lines_of};
-ghost use Rattle.dash_threads.specs.AtWork.{IsAtWork, StaysAtWork, RunsUnlessGivenUp};
-ghost use Rattle.dash_threads.specs.Threads.{IsThread, Takes, TakesAt, Continues, RunsAll, ThreadKeeps, HaveSeenSame, one_pass_more, HasPassed};
+ghost use Rattle.dash_threads.specs.AtWork.{IsAtWork, StaysAtWork, RunsUnlessGivenUp, RunsLines, RingsBells};
+ghost use Rattle.dash_threads.specs.Threads.{Takes, TakesAt, Continues, RunsAll, one_pass_more};
 ghost use Rattle.dash_threads.specs.Threads.{rungs_of, one_more, more_for, looper_woken};
 
 use crate::thread::{PostingThread, Timed};
@@ -36,9 +36,8 @@ impl PostingThread {
     )
         requires at_work { IsAtWork script.now hall.now self.old }
         requires mode { hall.now.lockstep ≡ false }
-        ensures runs { RunsUnlessGivenUp script.now hall.now self.old self.new }
-        ensures made { self.new.gave_up ≡ false → RunsAll (in_free_mode (C.shows timer.now.clock.now) timer.now.start) script.now self.old self.new }
-        ensures passed { HasPassed (lines_of self.old.number script.now.blocks) self.old self.new }
+        ensures { RunsLines script.now hall.now (lines_of self.old.number script.now.blocks)
+            (RunsAll (in_free_mode (C.shows timer.now.clock.now) timer.now.start) script.now) self.old self.new }
     {
         let pace = Pace { gate, timer };
         for block in script.blocks.as_slice() {
@@ -58,10 +57,8 @@ impl PostingThread {
     )
         requires at_work { IsAtWork script.now hall.now self.old }
         requires mode { hall.now.lockstep ≡ false }
-        ensures runs { RunsUnlessGivenUp script.now hall.now self.old self.new }
-        ensures made { self.new.gave_up ≡ false
-            → Continues (in_free_mode (C.shows pace.now.timer.now.clock.now) pace.now.timer.now.start) script.now block.now self.old self.new }
-        ensures passed { HasPassed (lines_in self.old.number block.now) self.old self.new }
+        ensures { RunsLines script.now hall.now (lines_in self.old.number block.now)
+            (Continues (in_free_mode (C.shows pace.now.timer.now.clock.now) pace.now.timer.now.start) script.now block.now) self.old self.new }
     {
         for line in block.lines.as_slice() {
             if line.thread == self.number {
@@ -140,9 +137,7 @@ impl PostingThread {
     /// Rings the bell of the looper that a command asks for a frame, or hands an event.
     fn nudge_for<R: Wait>(&mut self, rt: &R, hall: &Hall, script: &Script, command: Command)
         requires at_work { IsAtWork script.now hall.now self.old }
-        ensures thread { IsThread script.now hall.now self.new }
-        ensures kept { ThreadKeeps HaveSeenSame self.old self.new }
-        ensures rung { rungs_of self.new ≡ more_for (looper_woken command) (rungs_of self.old) }
+        ensures { RingsBells script.now hall.now (more_for (looper_woken command) (rungs_of self.old)) self.old self.new }
     {
         match woken_by(command) {
             Some(looper) => self.nudge(rt, hall, script, looper),
@@ -153,9 +148,7 @@ impl PostingThread {
     /// Rings the bell of this looper.
     pub(crate) fn nudge<R: Wait>(&mut self, rt: &R, hall: &Hall, script: &Script, looper: u32)
         requires at_work { IsAtWork script.now hall.now self.old }
-        ensures thread { IsThread script.now hall.now self.new }
-        ensures kept { ThreadKeeps HaveSeenSame self.old self.new }
-        ensures rung { rungs_of self.new ≡ one_more looper (rungs_of self.old) }
+        ensures { RingsBells script.now hall.now (one_more looper (rungs_of self.old)) self.old self.new }
     {
         let place = looper as usize;
         if place >= self.kit.posters.len() {

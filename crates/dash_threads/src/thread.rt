@@ -1,17 +1,16 @@
 //! A thread of a script, and its commands.
-ghost use Rattle.std.specs.Prelude.{◌≡◌, ◌<◌, ℕ, length, true, false, is_some, IfOk, OnOk};
+ghost use Rattle.std.specs.Prelude.{◌≡◌, ◌<◌, length, true, false, is_some, IfOk, OnOk};
 ghost use Rattle.dash_script.specs.declared.script.Script.{Script as TheScript};
 ghost use Rattle.dash_script.specs.declared.script.Command.TheVariants.{Frame, Unframe};
-ghost use Rattle.shared_queue.specs.Known.{IsOf};
 ghost use Rattle.choreographer.specs.Known.{IsOf as IsFrameOf};
 ghost use Rattle.run_model.specs.Moments.{Mode, in_lockstep};
 ghost use Rattle.run_model.specs.Planned.{lines_in};
-ghost use Rattle.dash_hall.specs.Growth.{GoesOn};
+ghost use Rattle.dash_hall.specs.Growth.{GoesOn, MayCall};
 ghost use Rattle.dash_hall.specs.Kits.{IsUnusedKit, frame_badge_of};
 ghost use Rattle.dash_hall.specs.Hosts.{PostsFrame};
 ghost use Rattle.dash_hall.specs.Requests.{posts_barrier};
-ghost use Rattle.dash_threads.specs.AtWork.{IsAtWork, StaysAtWork, WorksOn, RunsUnlessGivenUp};
-ghost use Rattle.dash_threads.specs.Threads.{CallsAt, with_barrier, MakesPlanned, Takes, TakesAt, Continues, HasBegun, one_pass_more, HasPassed, rungs_of, one_more};
+ghost use Rattle.dash_threads.specs.AtWork.{IsAtWork, StaysAtWork, WorksOn, RunsUnlessGivenUp, RunsLines, DoesWork};
+ghost use Rattle.dash_threads.specs.Threads.{CallsAt, with_barrier, MakesPlanned, Takes, TakesAt, TakesAtAny, Continues, HasBegun, one_pass_more, rungs_of, one_more};
 
 use crate::labels::Labelled;
 use crate::planned::call_for;
@@ -111,9 +110,7 @@ impl PostingThread {
         block: &Block,
     )
         requires at_work { IsAtWork script.now hall.now self.old }
-        ensures runs { RunsUnlessGivenUp script.now hall.now self.old self.new }
-        ensures made { self.new.gave_up ≡ false → Continues in_lockstep script.now block.now self.old self.new }
-        ensures passed { HasPassed (lines_in self.old.number block.now) self.old self.new }
+        ensures { RunsLines script.now hall.now (lines_in self.old.number block.now) (Continues in_lockstep script.now block.now) self.old self.new }
     {
         for line in block.lines.as_slice() {
             if line.thread == self.number {
@@ -201,8 +198,7 @@ impl PostingThread {
     ) -> Result<(), NoMemory>
         requires at_work { IsAtWork script.now hall.now self.old }
         requires heeds { look ≡ false }
-        ensures works { WorksOn script.now hall.now self.old self.new }
-        ensures made { OnOk result (TakesAt hall.now.lockstep script.now timed.now timed.command self.old self.new) }
+        ensures { DoesWork script.now hall.now (TakesAt hall.now.lockstep script.now timed.now timed.command) self.old self.new result }
     {
         let Timed { now, command } = timed;
         match command {
@@ -242,8 +238,7 @@ impl PostingThread {
     ) -> Result<(), NoMemory>
         requires at_work { IsAtWork script.now hall.now self.old }
         requires heeds { look.now ≡ false }
-        ensures works { WorksOn script.now hall.now self.old self.new }
-        ensures made { OnOk result (MakesPlanned script.now timed.now timed.command self.old self.new) }
+        ensures { DoesWork script.now hall.now (MakesPlanned script.now timed.now timed.command) self.old self.new result }
     {
         let Timed { now, command } = timed;
         let Some(planned) = call_for(script, self.barriers.as_slice(), now, command) else {
@@ -317,8 +312,7 @@ impl PostingThread {
     ) -> Result<(), NoMemory>
         requires at_work { IsAtWork script.now hall.now self.old }
         requires heeds { look.now ≡ false }
-        ensures works { WorksOn script.now hall.now self.old self.new }
-        ensures made { OnOk result (TakesAt hall.now.lockstep script.now post.now (Frame looper post.phase post.id post.delay) self.old self.new) }
+        ensures { DoesWork script.now hall.now (TakesAt hall.now.lockstep script.now post.now (Frame looper post.phase post.id post.delay)) self.old self.new result }
     {
         let place = looper as usize;
         let phases = phase_count(script.edition);
@@ -360,8 +354,7 @@ impl PostingThread {
     ) -> Result<(), NoMemory>
         requires at_work { IsAtWork script.now hall.now self.old }
         requires heeds { look.now ≡ false }
-        ensures works { WorksOn script.now hall.now self.old self.new }
-        ensures made { OnOk result ((now : ℕ) → TakesAt hall.now.lockstep script.now now (Unframe looper phase id) self.old self.new) }
+        ensures { DoesWork script.now hall.now (TakesAtAny hall.now.lockstep script.now (Unframe looper phase id)) self.old self.new result }
     {
         let place = looper as usize;
         let phases = phase_count(script.edition);
@@ -388,9 +381,7 @@ fn post_frame<R: Wait>(
     frames: &mut FramePass,
     post: FramePost,
 ) -> Result<(), NoMemory>
-    requires queue { IsOf poster.old screen.now.queue.now }
-    requires pass { pass.old.home ≡ screen.now.pool.now }
-    requires home { screen.now.queue.now.constants.home ≡ screen.now.pool.now }
+    requires ready { MayCall screen.now.queue.now screen.now.pool.now poster.old pass.old }
     requires frames { IsFrameOf frames.old screen.now.choreographer.now × (post.phase < screen.now.choreographer.now.constants.phases) }
     ensures on { GoesOn poster.old poster.new pass.old pass.new }
     ensures frames { frame_badge_of frames.new ≡ frame_badge_of frames.old }

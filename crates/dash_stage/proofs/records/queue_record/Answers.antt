@@ -10,4 +10,4 @@ pub retire-requires-clause-sealed : goal.retire-requires-clause-sealed
 retire-requires-clause-sealed c κs = given_sealed c.args.kits.now.items c.in_ok-posters.posters.items c.posters.new.kits.items c.args.sealed.items c.in_ok-posters.ensures c.requires.sealed
 
 pub returns-clause-kits : goal.returns-clause-kits
-returns-clause-kits c = ends_posters c.args.queue c.args.kits.now.items c.in_ok-posters.posters.items c.posters.new.kits.items (history_of c.in_ok-retired.retired.kept) c.requires.next c.in_ok-posters.ensures c.in_ok-retired.ensures.posters
+returns-clause-kits c = ends_posters c.args.queue c.args.kits.now.items c.in_ok-posters.posters.items c.posters.new.kits.items (history_of c.in_ok-retired.retired.kept) c.requires.next c.in_ok-posters.ensures c.in_ok-retired.ensures.end.calls

@@ -6,7 +6,7 @@ use Rattle.dash_threads.proofs.thread.post_frame.Goals as goal
 
 pub post_callback-requires-clause-ready : goal.post_callback-requires-clause-ready
 post_callback-requires-clause-ready g c =
-    record { of_queue = c.requires.queue; of_pool = c.requires.pass; home = c.requires.home; on = goes_nowhere _ c.args.poster.now _ c.args.pass.now c.of-began.ensures c.of-pass_began.ensures; clocked = begins_by_clock c.args.post.now _ c.args.poster.now c.of-began.ensures }
+    record { of_queue = c.requires.ready.queue; of_pool = c.requires.ready.pass; home = c.requires.ready.home; on = goes_nowhere _ c.args.poster.now _ c.args.pass.now c.of-began.ensures c.of-pass_began.ensures; clocked = begins_by_clock c.args.post.now _ c.args.poster.now c.of-began.ensures }
 
 pub returns-clause-made : goal.returns-clause-made
 returns-clause-made g c =

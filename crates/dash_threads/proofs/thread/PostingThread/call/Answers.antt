@@ -54,7 +54,7 @@ returns-then-place-len-2-clause-made g c =
     (λ token. CallsAt c.args.looper c.args.call token posters (set posters c.args.looper q))
     (λ token made at. calls_at_set posters c.args.looper p q c.args.call token c.index_mut.ensures.value near
     (record { sender = c.perform_by.ensures.called.on.sender; seen = (c.perform_by.ensures.called.on.more, sym c.perform_by.ensures.called.on.seen); made = made; moment = at }))
-    c.perform_by.ensures.called.made c.perform_by.ensures.moment
+    c.perform_by.ensures.called.made c.perform_by.ensures.answered.moment
 
 pub returns-clause-made : goal.returns-clause-made
 returns-clause-made g c =
@@ -68,7 +68,7 @@ returns-clause-made g c =
 pub returns-then-place-len-2-clause-token : goal.returns-then-place-len-2-clause-token
 returns-then-place-len-2-clause-token g c =
     let posters = c.args.self.now.kit.posters.items in
-    IfOk-weaker c.perform_by.result (λ token. is_some token ≡ posts_barrier c.args.call) (λ token. c.args.looper < length posters → is_some token ≡ posts_barrier c.args.call) (λ token is. λ near. is) c.perform_by.ensures.token
+    IfOk-weaker c.perform_by.result (λ token. is_some token ≡ posts_barrier c.args.call) (λ token. c.args.looper < length posters → is_some token ≡ posts_barrier c.args.call) (λ token is. λ near. is) c.perform_by.ensures.answered.token
 
 pub returns-clause-token : goal.returns-clause-token
 returns-clause-token g c =

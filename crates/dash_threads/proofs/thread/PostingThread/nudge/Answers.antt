@@ -7,6 +7,7 @@ use Rattle.dash_hall.specs.Kits.{badge_for}
 use Rattle.dash_hall.proofs.Badges.{alike_length}
 use Rattle.dash_hall.proofs.PassesHearing.{passes_heard_self}
 use Rattle.dash_threads.proofs.ThreadBells.{ring_set, ring_none}
+use Rattle.dash_threads.proofs.ThreadSteps.{rings_none}
 use Rattle.dash_threads.proofs.ThreadPlaces.{its_poster}
 use Rattle.dash_threads.proofs.thread.PostingThread.nudge.Goals as goal
 
@@ -17,43 +18,36 @@ nudge-requires-after_bounds g c κs within =
     let near : c.args.looper < length t.kit.posters.items = omega (arith, c.len.ensures, c.if-place-len.false) in
     its_poster c.args.script.now hall t c.requires.at_work.hall c.requires.at_work.thread c.args.looper c.index.result.now c.index_mut.result.now c.index.ensures c.index_mut.ensures.value near
 
-pub returns-clause-thread : goal.returns-clause-thread
-returns-clause-thread g c =
-    let t = c.args.self.now in
-    let same = c.nudge.ensures.same.0 in
-    record {
-      number = c.requires.at_work.thread.number;
-      posters = posters_kept t.number c.args.hall.now.queues.items t.kit.posters.items c.requires.at_work.thread.posters c.args.looper c.nudge.new.self c.index_mut.result.now ((λ i. record { table = same.table i; constants = same.constants i; sender = same.sender i }) ∙ ap badge_of c.index_mut.ensures.value);
-      frames = c.requires.at_work.thread.frames;
-      pass = c.requires.at_work.thread.pass;
-    }
+pub returns-then-place-len : goal.returns-then-place-len
+returns-then-place-len g c = rings_none c.args.script.now c.args.hall.now c.args.self.now _ c.requires.at_work.thread (ring_none c.args.self.now.kit.posters.items c.args.looper (omega (arith, c.len.ensures, c.if-place-len.true)))
 
-pub returns-clause-kept : goal.returns-clause-kept
-returns-clause-kept g c =
-    let t = c.args.self.now in
-    let same = c.nudge.ensures.same.0 in
-    record {
-      number = refl;
-      posters = map-set_same known_of t.kit.posters.items c.args.looper c.nudge.new.self c.index_mut.result.now
-          ((λ i. (record { table = same.table i; constants = same.constants i; sender = same.sender i }, c.nudge.ensures.same.1 i)) ∙ ap known_of c.index_mut.ensures.value);
-      pass = refl;
-      frames = passes_heard_self t.kit.frames.items;
-      barriers = refl;
-      passed = refl;
-      gave_up = refl;
-    }
-
-pub returns-then-place-len-clause-rung : goal.returns-then-place-len-clause-rung
-returns-then-place-len-clause-rung g c = ring_none c.args.self.now.kit.posters.items c.args.looper (omega (arith, c.len.ensures, c.if-place-len.true))
-
-pub returns-then-place-len-2-clause-rung : goal.returns-then-place-len-2-clause-rung
-returns-then-place-len-2-clause-rung g c =
+pub returns-then-place-len-2 : goal.returns-then-place-len-2
+returns-then-place-len-2 g c =
     let t = c.args.self.now in
     let long = alike_length badge_of (badge_for t.number) t.kit.posters.items c.args.hall.now.queues.items c.requires.at_work.thread.posters in
-    ring_none t.kit.posters.items c.args.looper (omega (arith, long, c.len-2.ensures, c.if-place-len-2.true))
+    rings_none c.args.script.now c.args.hall.now t _ c.requires.at_work.thread (ring_none t.kit.posters.items c.args.looper (omega (arith, long, c.len-2.ensures, c.if-place-len-2.true)))
 
-pub returns-clause-rung : goal.returns-clause-rung
-returns-clause-rung g c =
-    let ps = c.args.self.now.kit.posters.items in
-    let near : c.args.looper < length ps = omega (arith, c.len.ensures, c.if-place-len.false) in
-    ring_set ps c.args.looper c.index_mut.result.now c.nudge.new.self c.index_mut.ensures.value near c.nudge.ensures.rung
+pub returns : goal.returns
+returns g c =
+    let t = c.args.self.now in
+    let same = c.nudge.ensures.same.0 in
+    let near : c.args.looper < length t.kit.posters.items = omega (arith, c.len.ensures, c.if-place-len.false) in
+    record {
+      thread = record {
+        number = c.requires.at_work.thread.number;
+        posters = posters_kept t.number c.args.hall.now.queues.items t.kit.posters.items c.requires.at_work.thread.posters c.args.looper c.nudge.new.self c.index_mut.result.now ((λ i. record { table = same.table i; constants = same.constants i; sender = same.sender i }) ∙ ap badge_of c.index_mut.ensures.value);
+        frames = c.requires.at_work.thread.frames;
+        pass = c.requires.at_work.thread.pass;
+      };
+      kept = record {
+        number = refl;
+        posters = map-set_same known_of t.kit.posters.items c.args.looper c.nudge.new.self c.index_mut.result.now
+            ((λ i. (record { table = same.table i; constants = same.constants i; sender = same.sender i }, c.nudge.ensures.same.1 i)) ∙ ap known_of c.index_mut.ensures.value);
+        pass = refl;
+        frames = passes_heard_self t.kit.frames.items;
+        barriers = refl;
+        passed = refl;
+        gave_up = refl;
+      };
+      rung = ring_set t.kit.posters.items c.args.looper c.index_mut.result.now c.nudge.new.self c.index_mut.ensures.value near c.nudge.ensures.rung;
+    }

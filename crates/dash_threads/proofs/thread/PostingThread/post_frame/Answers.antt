@@ -2,7 +2,7 @@ use Rattle.std.proofs.Common.{◌<◌, ◌∙◌, sym, subst, length, arith, ap,
 use Rattle.std.proofs.Math.Seq.{map-set_same}
 use Rattle.looper_run.specs.Holding.{Sender}
 use Rattle.dash_hall.specs.Kits.{badge_of, badge_for, frame_badge_of, frame_badge_for}
-use Rattle.dash_threads.proofs.ThreadSteps.{on_ok}
+use Rattle.dash_threads.proofs.ThreadSteps.{on_ok, works_still}
 use Rattle.dash_threads.proofs.ThreadFrameRuns.{frame_progress, frame_within}
 use Rattle.dash_threads.proofs.ThreadText.{few_loopers}
 use Rattle.dash_hall.proofs.Badges.{alike_length, posters_kept, gone_badge, passes_kept, queue_count, choreographer_count}
@@ -18,18 +18,17 @@ frame_handler-requires g c =
     let long = queue_count c.args.hall.now.lockstep c.args.script.now c.args.hall.now.pool c.args.hall.now.queues.items c.requires.at_work.hall.queues in
     omega (arith, few, long, c.len-then-place-len.ensures, c.if-place-len-2.true)
 
-pub post_frame-requires-clause-queue : goal.post_frame-requires-clause-queue
-post_frame-requires-clause-queue g c =
+pub post_frame-requires-clause-ready : goal.post_frame-requires-clause-ready
+post_frame-requires-clause-ready g c =
     let t = c.args.self.now in
     let hall = c.args.hall.now in
     let near : c.args.looper < length t.kit.posters.items = omega (arith, c.len.ensures, c.if-place-len.true) in
-    its_poster c.args.script.now hall t c.requires.at_work.hall c.requires.at_work.thread c.args.looper c.index.result.now c.index_mut.result.now c.index.ensures c.index_mut.ensures.value near
-
-pub post_frame-requires-clause-home : goal.post_frame-requires-clause-home
-post_frame-requires-clause-home g c =
-    let hall = c.args.hall.now in
-    let near : c.args.looper < length hall.queues.items = omega (arith, c.len-then-place-len.ensures, c.if-place-len-2.true) in
-    its_home c.args.script.now hall c.args.self.now c.requires.at_work.hall c.requires.at_work.thread c.args.looper c.index.result.now c.index.ensures near
+    let near' : c.args.looper < length hall.queues.items = omega (arith, c.len-then-place-len.ensures, c.if-place-len-2.true) in
+    record {
+      queue = its_poster c.args.script.now hall t c.requires.at_work.hall c.requires.at_work.thread c.args.looper c.index.result.now c.index_mut.result.now c.index.ensures c.index_mut.ensures.value near;
+      pass = c.requires.at_work.thread.pass;
+      home = its_home c.args.script.now hall t c.requires.at_work.hall c.requires.at_work.thread c.args.looper c.index.result.now c.index.ensures near';
+    }
 
 pub post_frame-requires-clause-frames : goal.post_frame-requires-clause-frames
 post_frame-requires-clause-frames g c =
@@ -41,25 +40,8 @@ post_frame-requires-clause-frames g c =
     let phases = its_phases c.args.script.now hall t c.requires.at_work.hall c.requires.at_work.thread c.args.looper q c.index-then-post-phases.ensures near' in
     (its_pass c.args.script.now hall t c.requires.at_work.hall c.requires.at_work.thread c.args.looper q c.index_mut-then-post-phases.result.now c.index-then-post-phases.ensures c.index_mut-then-post-phases.ensures.value near, omega (arith, phases, c.phase_count-phases.ensures, c.if-post-phases.true))
 
-pub returns-then-post-phases-clause-works : goal.returns-then-post-phases-clause-works
-returns-then-post-phases-clause-works g c =
-    let t = c.args.self.now in
-    record {
-      thread = record {
-        number = c.requires.at_work.thread.number;
-        posters = posters_kept t.number c.args.hall.now.queues.items t.kit.posters.items c.requires.at_work.thread.posters c.args.looper c.post_frame.new.poster c.index_mut.result.now (gone_badge _ _ _ _ c.post_frame.ensures.on ∙ ap badge_of c.index_mut.ensures.value);
-        frames = passes_kept t.number c.args.hall.now.choreographers.items t.kit.frames.items c.requires.at_work.thread.frames c.args.looper c.post_frame.new.frames c.index_mut-then-post-phases.result.now (c.post_frame.ensures.frames ∙ ap frame_badge_of c.index_mut-then-post-phases.ensures.value);
-        pass = c.post_frame.ensures.on.home ∙ c.requires.at_work.thread.pass;
-      };
-      number = refl;
-      passed = refl;
-      goes = refl;
-      bells = map-set_same (λ (z : Sender). z.view.rung) t.kit.posters.items c.args.looper c.post_frame.new.poster c.index_mut.result.now
-          (c.post_frame.ensures.on.rung ∙ ap (λ (z : Sender). z.view.rung) c.index_mut.ensures.value);
-    }
-
-pub returns-then-post-phases-clause-made : goal.returns-then-post-phases-clause-made
-returns-then-post-phases-clause-made g c =
+pub returns-then-post-phases : goal.returns-then-post-phases
+returns-then-post-phases g c =
     let t = c.args.self.now in
     let s = c.args.script.now in
     let p = c.index_mut.result.now in
@@ -68,13 +50,28 @@ returns-then-post-phases-clause-made g c =
     let h = c.post_frame.new.frames in
     let near : c.args.looper < length t.kit.posters.items = omega (arith, c.len.ensures, c.if-place-len.true) in
     let near' : c.args.looper < length t.kit.frames.items = omega (arith, c.len-then-place-len-2.ensures, c.if-place-len-3.true) in
-    on_ok c.post_frame.result _ _
-    (λ made. λ m time mode allowed past rest are up. frame_progress m s time c.args.post.now c.args.looper c.args.post.phase c.args.post.id c.args.post.delay t.number t.barriers.items t.kit.posters.items t.kit.frames.items p q f h past allowed (its_mode m s c.args.hall.now t c.requires.at_work.hall c.requires.at_work.thread mode) c.index_mut.ensures.value c.index_mut-then-post-phases.ensures.value near near' c.post_frame.ensures.on.sender (c.post_frame.ensures.on.more, sym c.post_frame.ensures.on.seen)
-    (subst (λ (x : Handler). PostsFrame x.id c.args.post.now c.args.post.phase c.args.post.id c.args.post.delay p q f h) c.frame_handler.ensures made) up)
-    c.post_frame.ensures.made
+    record {
+      works = record {
+        thread = record {
+          number = c.requires.at_work.thread.number;
+          posters = posters_kept t.number c.args.hall.now.queues.items t.kit.posters.items c.requires.at_work.thread.posters c.args.looper c.post_frame.new.poster c.index_mut.result.now (gone_badge _ _ _ _ c.post_frame.ensures.on ∙ ap badge_of c.index_mut.ensures.value);
+          frames = passes_kept t.number c.args.hall.now.choreographers.items t.kit.frames.items c.requires.at_work.thread.frames c.args.looper c.post_frame.new.frames c.index_mut-then-post-phases.result.now (c.post_frame.ensures.frames ∙ ap frame_badge_of c.index_mut-then-post-phases.ensures.value);
+          pass = c.post_frame.ensures.on.home ∙ c.requires.at_work.thread.pass;
+        };
+        number = refl;
+        passed = refl;
+        goes = refl;
+        bells = map-set_same (λ (z : Sender). z.view.rung) t.kit.posters.items c.args.looper c.post_frame.new.poster c.index_mut.result.now
+            (c.post_frame.ensures.on.rung ∙ ap (λ (z : Sender). z.view.rung) c.index_mut.ensures.value);
+      };
+      made = on_ok c.post_frame.result _ _
+      (λ made. λ m time mode allowed past rest are up. frame_progress m s time c.args.post.now c.args.looper c.args.post.phase c.args.post.id c.args.post.delay t.number t.barriers.items t.kit.posters.items t.kit.frames.items p q f h past allowed (its_mode m s c.args.hall.now t c.requires.at_work.hall c.requires.at_work.thread mode) c.index_mut.ensures.value c.index_mut-then-post-phases.ensures.value near near' c.post_frame.ensures.on.sender (c.post_frame.ensures.on.more, sym c.post_frame.ensures.on.seen)
+      (subst (λ (x : Handler). PostsFrame x.id c.args.post.now c.args.post.phase c.args.post.id c.args.post.delay p q f h) c.frame_handler.ensures made) up)
+      c.post_frame.ensures.made;
+    }
 
-pub returns-clause-made : goal.returns-clause-made
-returns-clause-made g c = λ m time mode allowed past rest are up. (
+pub returns : goal.returns
+returns g c = record { works = works_still _ _ _ c.requires.at_work.thread; made = λ m time mode allowed past rest are up. (
     let t = c.args.self.now in
     let s = c.args.script.now in
     let hall = c.args.hall.now in
@@ -91,4 +88,4 @@ returns-clause-made g c = λ m time mode allowed past rest are up. (
       | else-place-len-via-then-place-len+then-place-len-2+else-place-len-3 w ↦ absurd (omega (arith, lt, cs, frames, w.len-then-place-len-2.ensures, w.if-place-len-3.false))
       | else-place-len-via-then-place-len+else-place-len-2 w ↦ absurd (omega (arith, lt, queues, w.len-then-place-len.ensures, w.if-place-len-2.false))
       | else-place-len-via-else-place-len w ↦ absurd (omega (arith, lt, queues, posters, c.len.ensures, w.if-place-len.false))
-    ])
+    ]) }

@@ -1,6 +1,7 @@
-use Rattle.std.proofs.Common.{None, ◌<◌, ℕ, subst, length, arith, refl}
+use Rattle.std.proofs.Common.{None, ◌<◌, ℕ, subst, length, arith, refl, rules}
 use Rattle.dash_threads.proofs.ThreadFrames.{removal_asks}
 use Rattle.dash_threads.proofs.ThreadFrameRuns.{unframe_progress, unframe_within}
+use Rattle.dash_threads.proofs.ThreadSteps.{works_still}
 use Rattle.dash_threads.proofs.ThreadPlaces.{its_pass, its_phases, thread_with_pass}
 use Rattle.dash_hall.proofs.Badges.{alike_length, frame_turn_badge, choreographer_count}
 use Rattle.dash_threads.proofs.thread.PostingThread.remove_frame.Goals as goal
@@ -18,36 +19,36 @@ remove_callbacks-requires g c =
     let phases = its_phases c.args.script.now hall t c.requires.at_work.hall c.requires.at_work.thread c.args.looper c.index.result.now c.index.ensures near' in
     (its_pass c.args.script.now hall t c.requires.at_work.hall c.requires.at_work.thread c.args.looper c.index.result.now c.index_mut.result.now c.index.ensures c.index_mut.ensures.value near, omega (arith, phases, c.phase_count-phases.ensures, c.if-phase-phases.true))
 
-pub returns-in_err-remove_callbacks-clause-works : goal.returns-in_err-remove_callbacks-clause-works
-returns-in_err-remove_callbacks-clause-works g c = record {
+pub returns-in_err-remove_callbacks : goal.returns-in_err-remove_callbacks
+returns-in_err-remove_callbacks g c = record { works = record {
   thread = thread_with_pass c.args.script.now c.args.hall.now c.args.self.now _ c.requires.at_work.thread refl refl refl c.args.looper c.index_mut.result.now c.remove_callbacks.new.pass refl c.index_mut.ensures.value (frame_turn_badge _ _ _ _ c.remove_callbacks.ensures.2);
   number = refl;
   passed = refl;
   goes = refl;
   bells = refl;
-}
+}; made = search rules }
 
-pub returns-in_ok-remove_callbacks-clause-works : goal.returns-in_ok-remove_callbacks-clause-works
-returns-in_ok-remove_callbacks-clause-works g c = record {
-  thread = thread_with_pass c.args.script.now c.args.hall.now c.args.self.now _ c.requires.at_work.thread refl refl refl c.args.looper c.index_mut.result.now c.remove_callbacks.new.pass refl c.index_mut.ensures.value (frame_turn_badge _ _ _ _ c.remove_callbacks.ensures.2);
-  number = refl;
-  passed = refl;
-  goes = refl;
-  bells = refl;
-}
-
-pub returns-in_ok-remove_callbacks-clause-made : goal.returns-in_ok-remove_callbacks-clause-made
-returns-in_ok-remove_callbacks-clause-made g c = λ now m time mode allowed past rest are up. (
+pub returns-in_ok-remove_callbacks : goal.returns-in_ok-remove_callbacks
+returns-in_ok-remove_callbacks g c = record {
+    works = record {
+      thread = thread_with_pass c.args.script.now c.args.hall.now c.args.self.now _ c.requires.at_work.thread refl refl refl c.args.looper c.index_mut.result.now c.remove_callbacks.new.pass refl c.index_mut.ensures.value (frame_turn_badge _ _ _ _ c.remove_callbacks.ensures.2);
+      number = refl;
+      passed = refl;
+      goes = refl;
+      bells = refl;
+    };
+    made = λ now m time mode allowed past rest are up. (
     let t = c.args.self.now in
     let f = c.index_mut.result.now in
     let h = c.remove_callbacks.new.pass in
     let turn = c.in_ok-remove_callbacks.ensures in
     let near : c.args.looper < length t.kit.frames.items = omega (arith, c.len.ensures, c.if-place-len.true) in
     unframe_progress m c.args.script.now time now c.args.looper c.args.phase c.args.id t.number t.barriers.items t.kit.posters.items t.kit.frames.items f h past allowed c.index_mut.ensures.value near
-    (subst (λ (i : ℕ). AsksFor (Removes c.args.phase i None) f h) c.from.ensures (removal_asks c.args.phase c.from.result f h turn.0 turn.1 turn.2 turn.4)) turn.2.turns up)
+    (subst (λ (i : ℕ). AsksFor (Removes c.args.phase i None) f h) c.from.ensures (removal_asks c.args.phase c.from.result f h turn.0 turn.1 turn.2 turn.4)) turn.2.turns up);
+}
 
-pub returns-else-place-len-clause-made : goal.returns-else-place-len-clause-made
-returns-else-place-len-clause-made g c = λ now m time mode allowed past rest are up. (
+pub returns-else-place-len : goal.returns-else-place-len
+returns-else-place-len g c = record { works = works_still _ _ _ c.requires.at_work.thread; made = λ now m time mode allowed past rest are up. (
     let t = c.args.self.now in
     let s = c.args.script.now in
     let hall = c.args.hall.now in
@@ -60,4 +61,4 @@ returns-else-place-len-clause-made g c = λ now m time mode allowed past rest ar
       | else-place-len-via-then-place-len+then-place-len-2+else-phase-phases w ↦ absurd (omega (arith, ph, c.phase_count-phases.ensures, w.if-phase-phases.false))
       | else-place-len-via-then-place-len+else-place-len-2 w ↦ absurd (omega (arith, lt, cs, w.len-then-place-len.ensures, w.if-place-len-2.false))
       | else-place-len-via-else-place-len w ↦ absurd (omega (arith, lt, cs, frames, c.len.ensures, w.if-place-len.false))
-    ])
+    ]) }

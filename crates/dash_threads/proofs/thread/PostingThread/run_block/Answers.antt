@@ -1,7 +1,7 @@
 use Rattle.std.proofs.Common.{◌+◌, sym, subst, arith}
 use Rattle.run_model.specs.Moments.{in_lockstep}
 use Rattle.dash_threads.specs.declared.thread.PostingThread.{PostingThread}
-use Rattle.dash_threads.proofs.ThreadBlocks.{IsAtLine, by_line, on_line, past_lines, past_passed}
+use Rattle.dash_threads.proofs.ThreadBlocks.{IsAtLine, by_line, on_line, past_lines}
 use Rattle.dash_threads.proofs.thread.PostingThread.run_block.Goals as goal
 use Rattle.dash_threads.proofs.thread.PostingThread.run_block.Goals.{then-line-self, else-line-self}
 
@@ -20,10 +20,6 @@ loop-line-preserved g c =
           (by_line in_lockstep s hall b here.line-index t here.self lines.result.now lines.ensures (omega (arith, c.loop-line-test.true)) here.invariant w.if-line-self.false)
     ]
 
-pub returns-clause-made : goal.returns-clause-made
-returns-clause-made g c =
+pub returns : goal.returns
+returns g c =
     past_lines in_lockstep c.args.script.now c.args.hall.now c.args.block.now c.loop-line.line-index c.args.self.now c.loop-line.self c.as_slice-line-items.result.now c.as_slice-line-items.ensures (omega (arith, c.loop-line-test.false)) c.loop-line.invariant
-
-pub returns-clause-passed : goal.returns-clause-passed
-returns-clause-passed g c =
-    past_passed in_lockstep c.args.script.now c.args.hall.now c.args.block.now c.loop-line.line-index c.args.self.now c.loop-line.self c.as_slice-line-items.result.now c.as_slice-line-items.ensures (omega (arith, c.loop-line-test.false)) c.loop-line.invariant

@@ -22,17 +22,15 @@ loop-block-preserved g c =
       passed = λ going. block_passed s i b b c.args.self.now c.loop-block.self c.run_block_by_clock.new.self near is c.loop-block.invariant.runs.number (c.loop-block.invariant.passed (ran.runs.goes going)) (ran.passed going);
     }
 
-pub returns-clause-made : goal.returns-clause-made
-returns-clause-made g c = λ going begun. (
+pub returns : goal.returns
+returns g c =
     let t = c.args.self.now in
     let bs = c.args.script.now.blocks in
     let m : Mode = in_free_mode (g.C.Clock.shows c.args.timer.now.clock.now) c.args.timer.now.start in
     let far : length bs ≤ c.loop-block.block-index = omega (arith, ap (λ (xs : List Block). length xs) c.as_slice-block-items.ensures, c.loop-block-test.false) in
-    subst (λ (xs : List Block). IsUpTo m c.args.script.now (lines_of t.number xs) c.loop-block.self) (take_all c.loop-block.block-index bs far) (c.loop-block.invariant.made going begun))
-
-pub returns-clause-passed : goal.returns-clause-passed
-returns-clause-passed g c = λ going. (
-    let t = c.args.self.now in
-    let bs = c.args.script.now.blocks in
-    let far : length bs ≤ c.loop-block.block-index = omega (arith, ap (λ (xs : List Block). length xs) c.as_slice-block-items.ensures, c.loop-block-test.false) in
-    c.loop-block.invariant.passed going ∙ ap (λ (xs : List Block). passes_more (length (lines_of t.number xs)) t.passed) (take_all c.loop-block.block-index bs far))
+    let all = take_all c.loop-block.block-index bs far in
+    record {
+      runs = c.loop-block.invariant.runs;
+      made = λ going begun. subst (λ (xs : List Block). IsUpTo m c.args.script.now (lines_of t.number xs) c.loop-block.self) all (c.loop-block.invariant.made going begun);
+      passed = λ going. c.loop-block.invariant.passed going ∙ ap (λ (xs : List Block). passes_more (length (lines_of t.number xs)) t.passed) all;
+    }
