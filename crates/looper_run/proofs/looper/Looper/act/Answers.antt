@@ -72,8 +72,8 @@ returns-after-run_idle-clause-comes g c =
     (answer_idle M l c.args.answer c.requires.may.answered.look (g.met.D.Dispatcher.others c.args.d.now) (g.met.D.Dispatcher.quiet c.args.d.now) l.held.journal.acts c.in-Idle.is (grows_none IsIdle l.held.journal.acts)) in
     let after : Holding = record { poster = c.self.inside.poster; pass = c.self.inside.pass; journal = c.run_idle.new.journal } in
     let still : RestsBetween D.Awaits D.Meets c.run_idle.new.d after = record {
-      awaits = c.run_idle.ensures.carries.awaits None c.requires.may.awaits;
-      meets = c.run_idle.ensures.carries.meets c.self.inside.poster.sender c.self.inside.poster.view.seen here;
+      awaits = c.run_idle.ensures.tells.carries.awaits None c.requires.may.awaits;
+      meets = c.run_idle.ensures.tells.carries.meets c.self.inside.poster.sender c.self.inside.poster.view.seen here;
     } in
     let rests : UnlessStopped c.match-run_idle.result (RestsBetween D.Awaits D.Meets c.run_idle.new.d after) = elim c.match-run_idle.branch [
       | in-Ok-run_idle w ↦ subst (λ (r : Step). UnlessStopped r (RestsBetween D.Awaits D.Meets c.run_idle.new.d after)) (sym w.result-is) still
