@@ -13,3 +13,5 @@ pub mod Rounds
 pub mod Sleeping
 pub mod Pausing
 pub mod Keeping
+pub mod Through
+pub mod Bounds

@@ -1,5 +1,5 @@
 -- How a loop by a clock ends.
-use Rattle.std.proofs.Common.{◌≡◌, ◌⊎◌, ℕ, Bool, true, List, [], ◌++◌, map, Option, Some, None, refl, sym, ap, ◌∙◌, subst, inl, inr, arith}
+use Rattle.std.proofs.Common.{◌≡◌, ◌⊎◌, ℕ, Bool, true, false, List, [], ◌++◌, map, Option, Some, None, refl, sym, ap, ◌∙◌, subst, inl, inr, arith}
 use Rattle.atomic_table.specs.Seated.{TableId}
 use Rattle.loop_io.specs.Moments.{IsMoment}
 use Rattle.message_pool.specs.Passes.{Claimed, Tally, Node}
@@ -19,7 +19,7 @@ use Rattle.looper_run.specs.Holding.{Sender, Holding, Looping, IsAt}
 use Rattle.looper_run.specs.Asked.{Asked, Listening, Listen, with_asked, asked_by_round}
 use Rattle.looper_run.specs.Tests.{Test, Passes}
 use Rattle.looper_run.specs.Looks.{looked_by, by_poster, HasAnswer, HasEnded, IsBegun, WaitsAsTold}
-use Rattle.looper_run.specs.Loops.{WorksOn, HasStepped, HasPaused, Stepped, IsClosed, StepsBy, IsLoop, LastWait, LoopBy, LoopsOrGoes, StepsOrGoes, IsLoopOrGoes, Pauses, loop_of, pace_of, HasPaced, UnlessHalted, UnlessLost, IsNoWait}
+use Rattle.looper_run.specs.Loops.{WorksOn, HasStepped, HasPaused, Stepped, IsClosed, StepsBy, IsLoop, LastWait, LoopBy, LoopsOrGoes, StepsOrGoes, IsLoopOrGoes, Pauses, loop_of, pace_of, HasPaced, UnlessHalted, UnlessLost, is_over, IsNoWait}
 use Rattle.looper_run.specs.Round.{UnlessStopped}
 use Rattle.looper_run.proofs.Asking.{tells_as, with_more}
 use Rattle.looper_run.proofs.Quiet.{quiet_events}
@@ -133,10 +133,12 @@ begins P Q C shows start cap now a b c loop.Nudged m h both s =
 begins P Q C shows start cap now a b c loop.NoMemory m h both s = (b, begun_any P a b h, inr s)
 
 -- the same, where the looper may be left after some steps
-pub some_begins : (P : List Listening → Type 0) (Q : List Listening → Type 0) (C : ℕ → List Listening → List Listening → Type 0) (shows : ℕ → Bool) (start : ℕ) (cap : Option ℕ) (most now : ℕ) (a b c : Looping) (r : Option Loop)
+pub some_begins : (P : List Listening → Type 0) (Q : List Listening → Type 0) (C : ℕ → List Listening → List Listening → Type 0) (shows : ℕ → Bool) (start : ℕ) (cap most : Option ℕ) (now : ℕ) (a b c : Looping) (r : Option Loop)
     → IsMoment shows start now → IsBegun P a b → ((heard more : List Listening) → P heard → Q more → C now heard more) → StepsOrGoes Q shows start cap most b c r → IsLoopOrGoes C shows start cap most a c r
-some_begins P Q C shows start cap most now a b c None m h both s = (now, m, h.told.0, b, begun_at P a b h, s.0, both h.told.0 [] h.told.3 s.1)
-some_begins P Q C shows start cap most now a b c (Some r) m h both s = begins P Q C shows start cap now a b c r m h both s
+some_begins P Q C shows start cap None now a b c None m h both s = absurd s
+some_begins P Q C shows start cap (Some most) now a b c None m h both s = (now, m, h.told.0, b, begun_at P a b h, s.0, both h.told.0 [] h.told.3 s.1)
+some_begins P Q C shows start cap None now a b c (Some r) m h both s = begins P Q C shows start cap now a b c r m h both s
+some_begins P Q C shows start cap (Some most) now a b c (Some r) m h both s = begins P Q C shows start cap now a b c r m h both s
 
 -- what was asked at the start and at the end
 pub asks_both : (old mid new : Option (List Asked)) (now : ℕ) (heard more : List Listening) → mid ≡ with_asked old (asked_by_round now heard) → new ≡ with_asked mid (map Listen more) → new ≡ with_asked old (asked_by_round now heard ++ map Listen more)
@@ -205,6 +207,11 @@ unless_paced P step.NoMemory h = tt
 pub unless_pauses : (P : Type 0) (r : Pause) → P → UnlessLost (loop_of r) P
 unless_pauses P (pause.Cap now) h = h
 unless_pauses P pause.Nudged h = h
+
+-- a pause ends no looper
+pub pause_goes_on : (r : Pause) → false ≡ is_over (loop_of r)
+pause_goes_on (pause.Cap now) = refl
+pause_goes_on pause.Nudged = refl
 
 -- that the looper is marked as ended is no part of a step
 pub steps_marked : (shows : ℕ → Bool) (start : ℕ) (cap : Option ℕ) (a b : Looping) → HasStepped shows start cap a b step.Ends → HasStepped shows start cap a (record { held = b.held; idle_owed = b.idle_owed; ended = true }) step.Ends

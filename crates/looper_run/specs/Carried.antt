@@ -1,6 +1,7 @@
 -- What a call carries on of a dispatcher, and of the looper that it works for.
 use Rattle.std.specs.Prelude.{◌≡◌, ℕ, List, Option, None}
 use Rattle.loop_model.specs.declared.journal.Act.{Act}
+use Rattle.loop_model.specs.declared.journal.Journal.{Journal}
 use Rattle.loop_model.specs.declared.entry.Entry.{Entry}
 use Rattle.looper_run.specs.declared.own.Own.{Own}
 use Rattle.looper_run.specs.Holding.{Holding, Workplace, held, IsSameOwn}
@@ -22,6 +23,14 @@ pub record CarriesOver {D : Type 0} {O : Type 0} (Works : D → Workplace → Ty
 abbrev pub Carries : {D : Type 0} {O : Type 0} → (D → Workplace → Type 0) → (D → O) → (D → ℕ) → (D → Option (List Asked))
     → (D → Option ℕ → Type 0) → (D → ℕ → List Entry → List Act → Type 0) → D → D → Type 0
 Carries Works source count told Awaiting Passing before after = (acts : List Act) → CarriesOver Works source count told Awaiting Passing before after acts acts
+
+-- of a journal, over which a dispatcher is carried: it is the same looper's, and acts were appended so
+pub record TellsOn {D : Type 0} {O : Type 0} (Grows : List Act → List Act → Type 0) (Works : D → Workplace → Type 0) (source : D → O) (count : D → ℕ)
+    (told : D → Option (List Asked)) (Awaiting : D → Option ℕ → Type 0) (Passing : D → ℕ → List Entry → List Act → Type 0)
+    (before after : D) (j j' : Journal) : Type 0 where
+  pub looper : j'.looper ≡ j.looper
+  pub grows : Grows j.acts j'.acts
+  pub carries : CarriesOver Works source count told Awaiting Passing before after j.acts j'.acts
 
 -- in place of what a dispatcher tells, where a call adds to it
 abbrev pub unasked : {D : Type 0} → D → Option (List Asked)

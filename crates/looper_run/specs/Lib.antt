@@ -3,9 +3,10 @@ pub mod Acts
 pub mod Asked
 pub mod Tests
 pub mod Carried
-pub mod Ready
 pub mod Told
+pub mod Ready
 pub mod Looks
+pub mod Going
 pub mod Round
 pub mod Loops
 pub mod LettingGo

@@ -13,7 +13,7 @@ use Rattle.queue_state.specs.declared.answers.Nexted.{Nexted}
 use Rattle.queue_state.specs.declared.answers.Nexted.TheVariants as nexted
 use Rattle.shared_queue.specs.declared.waiting.Waited.{Waited}
 use Rattle.shared_queue.specs.declared.waiting.Waited.TheVariants as waited
-use Rattle.shared_queue.specs.Waiting.{IsCap, HasLooked, HasNudged, Slept, EndsBy, WaitedBy}
+use Rattle.shared_queue.specs.Waiting.{IsCap, HasLooked, HasNudged, Slept, EndsBy, WaitedBy, WaitsAtHome}
 use Rattle.looper_run.specs.declared.by_clock.Loop.{Loop}
 use Rattle.looper_run.specs.declared.by_clock.Loop.TheVariants as loop
 use Rattle.looper_run.specs.declared.by_clock.Pace.{Pace}
@@ -25,7 +25,7 @@ use Rattle.looper_run.specs.declared.step.Step.TheVariants as step
 use Rattle.looper_run.specs.Holding.{Sender, Holding, Looping}
 use Rattle.looper_run.specs.Acts.{taken_by, moment_on}
 use Rattle.looper_run.specs.Asked.{Listening, TellsOf, any_heard}
-use Rattle.looper_run.specs.Looks.{by_poster, StepBy, IsBegun}
+use Rattle.looper_run.specs.Looks.{by_poster, StepBy, IsBegun, IsAnswerOf}
 
 -- the same looper on the same queue and pool, which has the turns that it had and more; it may have heard the bell
 pub record IsStill (before after : Holding) : Type 0 where
@@ -189,15 +189,32 @@ abbrev pub LoopsOrGoes : (ℕ → Bool) → ℕ → Option ℕ → Setting → H
 LoopsOrGoes shows start cap s before after None = WorksOn shows start s before after
 LoopsOrGoes shows start cap s before after (Some r) = LoopBy shows start cap s before after r
 
-abbrev pub StepsOrGoes : (List Listening → Type 0) → (ℕ → Bool) → ℕ → Option ℕ → ℕ → Looping → Looping → Option Loop → Type 0
-StepsOrGoes called shows start cap most before after None = Stepped shows start cap most before after × called []
+-- there is a bound, and this holds of it
+abbrev pub HasBound : Option ℕ → (ℕ → Type 0) → Type 0
+HasBound None P = ⊥
+HasBound (Some most) P = P most
+
+abbrev pub StepsOrGoes : (List Listening → Type 0) → (ℕ → Bool) → ℕ → Option ℕ → Option ℕ → Looping → Looping → Option Loop → Type 0
+StepsOrGoes called shows start cap most before after None = HasBound most (λ n. Stepped shows start cap n before after × called [])
 StepsOrGoes called shows start cap most before after (Some r) = StepsBy called shows start cap before after r
 
-abbrev pub IsLoopOrGoes : (ℕ → List Listening → List Listening → Type 0) → (ℕ → Bool) → ℕ → Option ℕ → ℕ → Looping → Looping → Option Loop → Type 0
-IsLoopOrGoes called shows start cap most before after None =
+abbrev pub IsLoopOrGoes : (ℕ → List Listening → List Listening → Type 0) → (ℕ → Bool) → ℕ → Option ℕ → Option ℕ → Looping → Looping → Option Loop → Type 0
+IsLoopOrGoes called shows start cap most before after None = HasBound most (λ n.
     (now : ℕ) × IsMoment shows start now × (heard : List Listening) × (begun : Looping) × IsBegun (λ h. h ≡ heard) before begun
-    × Stepped shows start cap most begun after × called now heard []
+    × Stepped shows start cap n begun after × called now heard [])
 IsLoopOrGoes called shows start cap most before after (Some r) = IsLoop called shows start cap before after r
+
+-- no step is left of a bound
+abbrev pub is_spent : Option ℕ → Bool
+is_spent None = false
+is_spent (Some zero) = true
+is_spent (Some (suc n)) = false
+
+-- a bound less one step
+abbrev pub one_less : Option ℕ → Option ℕ
+one_less None = None
+one_less (Some zero) = Some zero
+one_less (Some (suc n)) = Some n
 
 -- such a loop ended the looper
 abbrev pub is_over_then : Option Loop → Bool
@@ -222,6 +239,12 @@ IsNoWait nexted.Idle = Unit {0}
 IsNoWait (nexted.Wait until) = ⊥
 IsNoWait (nexted.End left) = Unit {0}
 IsNoWait nexted.Over = Unit {0}
+
+-- what a looper acts on behind a wait
+pub record IsFound (waiting : Waited Claimed TableId) (answer : Nexted Claimed TableId) : Type 0 where
+  pub answers : Answers waiting answer
+  pub no_wait : IsNoWait answer
+  pub home : (pool : TableId) → WaitsAtHome (λ (c : Claimed). c.home) pool waiting → IsAnswerOf pool answer
 
 -- any other as a pause
 abbrev pub Pauses : Waited Claimed TableId → Pause → Type 0

@@ -10,6 +10,7 @@ use Rattle.message_pool.specs.Passes.{Claimed, Node}
 use Rattle.shared_queue.specs.Known.{Shared}
 use Rattle.looper_run.specs.Holding.{Holding, Looping, Workplace, workplace, IsAt}
 use Rattle.looper_run.specs.Tests.{Passes, PassesWith, HasTaken, SawClaim, IsUntouched}
+use Rattle.looper_run.specs.Told.{IsRouteOf}
 
 -- between two dispatches: the dispatcher awaits none, and its test is true of the looper
 pub record RestsBetween {D : Type 0} (Awaiting : D → Option ℕ → Type 0) (Passing : D → ℕ → List Entry → List Act → Type 0) (d : D) (h : Holding) : Type 0 where
@@ -51,6 +52,12 @@ pub record HasRouted {D : Type 0} (Awaiting : D → Option ℕ → Type 0) (Pass
     (now : ℕ) (route : Route) : Type 0 where
   pub awaits : Awaiting d None
   pub meets : PassesWith (Passing d) h m now route
+
+-- the message, which has such a callback, went by a route that is one of its own
+pub record HasGone {D : Type 0} (Awaiting : D → Option ℕ → Type 0) (Passing : D → ℕ → List Entry → List Act → Type 0) (d : D) (h : Holding) (m : Node)
+    (now : ℕ) (by : Option ℕ) (route : Route) : Type 0 where
+  pub is_route : IsRouteOf by route
+  pub routed : HasRouted Awaiting Passing d h m now route
 
 -- the message is left to the handler: it is awaited still, what was held of a claim still is, and nothing was touched
 pub record LeavesTaken {D : Type 0} (Awaiting : D → Option ℕ → Type 0) (Holds : D → Option Claimed → Type 0)

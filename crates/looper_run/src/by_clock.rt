@@ -1,13 +1,11 @@
 //! A looper that waits by a clock.
-ghost use Rattle.std.specs.Prelude.{◌≡◌, false, map, OnOk, IfOk, IfErr};
-ghost use Rattle.atomic_table.specs.Seated.{TableId};
-ghost use Rattle.looper_run.specs.Holding.{IsAt};
+ghost use Rattle.std.specs.Prelude.{◌≡◌, false, map, None, OnOk, IfOk, IfErr};
 ghost use Rattle.looper_run.specs.Asked.{Listen, with_asked, AsksByLoop};
 ghost use Rattle.looper_run.specs.Carried.{CarriesOver, KeepsLooper, unasked};
 ghost use Rattle.looper_run.specs.Ready.{RestsBetween, ServesBetween, MayRun};
-ghost use Rattle.looper_run.specs.Looks.{IsAnswerOf};
-ghost use Rattle.looper_run.specs.Loops.{IsStill, HasPaced, pace_of, UnlessHalted, IsClosed, StepsBy, IsLoop, LoopBy, is_over, UnlessLost, LoopsOrGoes, StepsOrGoes, IsLoopOrGoes, UnlessLostThen, is_over_then, Answers, IsNoWait, Pauses, loop_of};
-ghost use Rattle.shared_queue.specs.Waiting.{WaitsAtHome};
+ghost use Rattle.looper_run.specs.Going.{MayLoop, ComesBy};
+ghost use Rattle.looper_run.specs.Loops.{IsStill, HasPaced, pace_of, UnlessHalted, IsClosed, IsLoop, LoopBy, is_over, UnlessLost, LoopsOrGoes, StepsOrGoes};
+ghost use Rattle.looper_run.specs.Loops.{IsLoopOrGoes, UnlessLostThen, is_over_then, is_spent, one_less, IsFound, Pauses, loop_of};
 
 use crate::dispatcher::Dispatcher;
 use crate::looper::Looper;
@@ -89,10 +87,8 @@ impl Pause {
 
 // What a wait was answered: the answer of a look, or a pause.
 fn answer_of<P: Payload>(waited: Waited<PoolClaim<P>>) -> Result<Nexted<PoolClaim<P>>, Pause>
-    ensures answer { IfOk result (Answers waited) }
-    ensures found { IfOk result IsNoWait }
+    ensures answer { IfOk result (IsFound waited) }
     ensures pause { IfErr result (Pauses waited) }
-    ensures home { (pool : TableId) → WaitsAtHome (λ c. c.home) pool waited → IfOk result (IsAnswerOf pool) }
 {
     match waited {
         Waited::Taken { number, now, node } => Ok(Nexted::Taken { number, now, node }),
@@ -101,6 +97,26 @@ fn answer_of<P: Payload>(waited: Waited<PoolClaim<P>>) -> Result<Nexted<PoolClai
         Waited::Over => Ok(Nexted::Over),
         Waited::Cap { now } => Err(Pause::Cap { now }),
         Waited::Nudged => Err(Pause::Nudged),
+    }
+}
+
+// Whether no step is left of this bound, where there is one.
+fn is_spent(left: Option<u64>) -> bool
+    ensures { result ≡ is_spent left }
+{
+    match left {
+        Some(steps) => steps == 0,
+        None => false,
+    }
+}
+
+// The bound less one step.
+fn one_less(left: Option<u64>) -> Option<u64>
+    ensures { result ≡ one_less left }
+{
+    match left {
+        Some(steps) => Some(steps.saturating_sub(1)),
+        None => None,
     }
 }
 
@@ -129,11 +145,10 @@ impl<E: Recorder, P: Payload> Looper<E, P> {
         ensures rests { UnlessLost result (RestsBetween D.Awaits D.Meets d.new self.new.held) }
         ensures ended { self.new.ended ≡ is_over result }
     {
-        let now = by.clock.uptime_millis().saturating_sub(by.start);
-        let Ok(()) = self.begin(rt, sources, d, now) else {
-            return Loop::NoMemory
-        };
-        self.go_on(rt, queue, pool, sources, d, by)
+        match self.run(rt, queue, pool, sources, d, by, None) {
+            Some(ended) => ended,
+            None => unreachable!(),
+        }
     }
 
     /// As `run_loop`, but it dispatches a message or runs the idle handlers no more than so many times, each of which counts as one.
@@ -154,19 +169,41 @@ impl<E: Recorder, P: Payload> Looper<E, P> {
         requires ready { ServesBetween D.Serves D.Awaits D.Meets d.old self.old.held }
         ensures keeps { KeepsLooper D.Serves D.origin D.nudges unasked IsStill d.old d.new self.old.held self.new.held }
         ensures loops { LoopsOrGoes (C.shows by.now.clock.now) by.now.start by.now.cap queue.now.constants.setting self.old.held self.new.held result }
-        ensures steps { IsLoopOrGoes (AsksByLoop (D.asked d.old) (D.asked d.new)) (C.shows by.now.clock.now) by.now.start by.now.cap most self.old self.new result }
+        ensures steps { IsLoopOrGoes (AsksByLoop (D.asked d.old) (D.asked d.new))
+            (C.shows by.now.clock.now) by.now.start by.now.cap (Some most) self.old self.new result }
         ensures rests { UnlessLostThen result (RestsBetween D.Awaits D.Meets d.new self.new.held) }
         ensures ended { self.new.ended ≡ is_over_then result }
+    {
+        self.run(rt, queue, pool, sources, d, by, Some(most))
+    }
+
+    // The loop, with a bound on its steps or without one.
+    fn run<R: Wait + time::Clock, D: Dispatcher<Record = E, Value = P>, C: Clock>(
+        &mut self,
+        rt: &R,
+        queue: &SharedQueue<PoolClaim<P>, E>,
+        pool: &Pool<P>,
+        sources: &Mutex<Sources>,
+        d: &mut D,
+        by: &ByClock<C>,
+        most: Option<u64>,
+    ) -> Option<Loop>
+        requires may { MayLoop D.Serves D.Awaits D.Meets d.old queue.now pool.now self.old }
+        ensures comes { ComesBy D.Serves D.origin D.nudges unasked D.Awaits D.Meets IsStill (UnlessLostThen result)
+            d.old d.new self.old self.new (is_over_then result) }
+        ensures loops { LoopsOrGoes (C.shows by.now.clock.now) by.now.start by.now.cap queue.now.constants.setting self.old.held self.new.held result }
+        ensures steps { IsLoopOrGoes (AsksByLoop (D.asked d.old) (D.asked d.new))
+            (C.shows by.now.clock.now) by.now.start by.now.cap most self.old self.new result }
     {
         let now = by.clock.uptime_millis().saturating_sub(by.start);
         let Ok(()) = self.begin(rt, sources, d, now) else {
             return Some(Loop::NoMemory)
         };
-        self.go_some(rt, queue, pool, sources, d, by, most)
+        self.go(rt, queue, pool, sources, d, by, most)
     }
 
-    // Waits for messages until the queue is over or the looper is to pause.
-    fn go_on<R: Wait + time::Clock, D: Dispatcher<Record = E, Value = P>, C: Clock>(
+    // Waits for messages until the queue is over, the looper is to pause, or no step is left of the bound.
+    fn go<R: Wait + time::Clock, D: Dispatcher<Record = E, Value = P>, C: Clock>(
         &mut self,
         rt: &R,
         queue: &SharedQueue<PoolClaim<P>, E>,
@@ -174,58 +211,21 @@ impl<E: Recorder, P: Payload> Looper<E, P> {
         sources: &Mutex<Sources>,
         d: &mut D,
         by: &ByClock<C>,
-    ) -> Loop
-        requires looper { MayRun queue.now pool.now self.old }
-        requires free { queue.now.constants.setting.lockstep ≡ false }
-        requires ready { ServesBetween D.Serves D.Awaits D.Meets d.old self.old.held }
-        ensures keeps { KeepsLooper D.Serves D.origin D.nudges unasked IsStill d.old d.new self.old.held self.new.held }
-        ensures loops { LoopBy (C.shows by.now.clock.now) by.now.start by.now.cap queue.now.constants.setting self.old.held self.new.held result }
-        ensures steps { StepsBy (λ more. D.asked d.new ≡ with_asked (D.asked d.old) (map Listen more))
-            (C.shows by.now.clock.now) by.now.start by.now.cap self.old self.new result }
-        ensures rests { UnlessLost result (RestsBetween D.Awaits D.Meets d.new self.new.held) }
-        ensures ended { self.new.ended ≡ is_over result }
-    {
-        for _ in rt.forever() {
-            match self.pace(rt, queue, pool, sources, d, by) {
-                Pace::Goes => {}
-                Pace::Ends => {
-                    self.ended = true;
-                    return Loop::Ended;
-                }
-                Pace::NoMemory => return Loop::NoMemory,
-                Pace::Pauses { pause } => {
-                    let Ok(()) = self.close(rt, sources, d) else {
-                        return Loop::NoMemory
-                    };
-                    return pause.as_loop();
-                }
-            }
-        }
-        unreachable!()
-    }
-
-    // The same, but no more than so many times.
-    fn go_some<R: Wait + time::Clock, D: Dispatcher<Record = E, Value = P>, C: Clock>(
-        &mut self,
-        rt: &R,
-        queue: &SharedQueue<PoolClaim<P>, E>,
-        pool: &Pool<P>,
-        sources: &Mutex<Sources>,
-        d: &mut D,
-        by: &ByClock<C>,
-        most: u64,
+        most: Option<u64>,
     ) -> Option<Loop>
-        requires looper { MayRun queue.now pool.now self.old }
-        requires free { queue.now.constants.setting.lockstep ≡ false }
-        requires ready { ServesBetween D.Serves D.Awaits D.Meets d.old self.old.held }
-        ensures keeps { KeepsLooper D.Serves D.origin D.nudges unasked IsStill d.old d.new self.old.held self.new.held }
+        requires may { MayLoop D.Serves D.Awaits D.Meets d.old queue.now pool.now self.old }
+        ensures comes { ComesBy D.Serves D.origin D.nudges unasked D.Awaits D.Meets IsStill (UnlessLostThen result)
+            d.old d.new self.old self.new (is_over_then result) }
         ensures loops { LoopsOrGoes (C.shows by.now.clock.now) by.now.start by.now.cap queue.now.constants.setting self.old.held self.new.held result }
         ensures steps { StepsOrGoes (λ more. D.asked d.new ≡ with_asked (D.asked d.old) (map Listen more))
             (C.shows by.now.clock.now) by.now.start by.now.cap most self.old self.new result }
-        ensures rests { UnlessLostThen result (RestsBetween D.Awaits D.Meets d.new self.new.held) }
-        ensures ended { self.new.ended ≡ is_over_then result }
     {
-        for _number in 0..most {
+        let mut left = most;
+        for _ in rt.forever() {
+            if is_spent(left) {
+                return None;
+            }
+            left = one_less(left);
             match self.pace(rt, queue, pool, sources, d, by) {
                 Pace::Goes => {}
                 Pace::Ends => {
@@ -241,7 +241,7 @@ impl<E: Recorder, P: Payload> Looper<E, P> {
                 }
             }
         }
-        None
+        unreachable!()
     }
 
     // Waits for a message and dispatches it, or runs the idle handlers, unless the looper is to pause.
@@ -254,13 +254,9 @@ impl<E: Recorder, P: Payload> Looper<E, P> {
         d: &mut D,
         by: &ByClock<C>,
     ) -> Pace
-        requires at { IsAt queue.now pool.now self.old.held }
-        requires free { queue.now.constants.setting.lockstep ≡ false }
-        requires ready { ServesBetween D.Serves D.Awaits D.Meets d.old self.old.held }
-        ensures keeps { KeepsLooper D.Serves D.origin D.nudges D.asked IsStill d.old d.new self.old.held self.new.held }
+        requires may { MayLoop D.Serves D.Awaits D.Meets d.old queue.now pool.now self.old }
+        ensures comes { ComesBy D.Serves D.origin D.nudges D.asked D.Awaits D.Meets IsStill (UnlessHalted result) d.old d.new self.old self.new self.old.ended }
         ensures paced { HasPaced (C.shows by.now.clock.now) by.now.start by.now.cap self.old self.new result }
-        ensures rests { UnlessHalted result (RestsBetween D.Awaits D.Meets d.new self.new.held) }
-        ensures ended { self.new.ended ≡ self.old.ended }
     {
         let waited = self
             .poster

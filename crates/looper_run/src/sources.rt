@@ -2,7 +2,7 @@
 ghost use Rattle.std.specs.Prelude.{◌≡◌, map, OnOk};
 ghost use Rattle.looper_run.specs.Acts.{IsIdle, GrowsBy};
 ghost use Rattle.looper_run.specs.Asked.{Listen, with_asked, TellsOf};
-ghost use Rattle.looper_run.specs.Carried.{CarriesOver, unasked};
+ghost use Rattle.looper_run.specs.Carried.{TellsOn, unasked};
 
 use crate::dispatch::tell;
 use crate::dispatcher::Dispatcher;
@@ -27,9 +27,7 @@ fn run_turns<R: Wait, D: Dispatcher>(
     d: &mut D,
     turns: &[IdleTurn],
 ) -> Result<(), NoMemory>
-    ensures looper { journal.new.looper ≡ journal.old.looper }
-    ensures idle { GrowsBy IsIdle journal.old.acts journal.new.acts }
-    ensures carries { CarriesOver D.Serves D.origin D.nudges D.asked D.Awaits D.Meets d.old d.new journal.old.acts journal.new.acts }
+    ensures tells { TellsOn (GrowsBy IsIdle) D.Serves D.origin D.nudges D.asked D.Awaits D.Meets d.old d.new journal.old journal.new }
 {
     for turn in turns {
         let Some(kept) = d.idle(turn.id, turn.keep) else {
@@ -48,9 +46,7 @@ pub(crate) fn run_idle<R: Wait, D: Dispatcher>(
     journal: &mut Journal,
     d: &mut D,
 ) -> Result<(), NoMemory>
-    ensures looper { journal.new.looper ≡ journal.old.looper }
-    ensures told { GrowsBy IsIdle journal.old.acts journal.new.acts }
-    ensures carries { CarriesOver D.Serves D.origin D.nudges D.asked D.Awaits D.Meets d.old d.new journal.old.acts journal.new.acts }
+    ensures tells { TellsOn (GrowsBy IsIdle) D.Serves D.origin D.nudges D.asked D.Awaits D.Meets d.old d.new journal.old journal.new }
 {
     let turns = sources.lock(rt).idle.turns();
     run_turns(rt, sources, journal, d, turns?.as_slice())
@@ -63,9 +59,8 @@ pub(crate) fn take_events<R: Wait, D: Dispatcher>(
     journal: &mut Journal,
     d: &mut D,
 ) -> Result<(), NoMemory>
-    ensures looper { journal.new.looper ≡ journal.old.looper }
-    ensures told { TellsOf (λ heard. OnOk result (D.asked d.new ≡ with_asked (D.asked d.old) (map Listen heard))) journal.old.acts journal.new.acts }
-    ensures carries { CarriesOver D.Serves D.origin D.nudges unasked D.Awaits D.Meets d.old d.new journal.old.acts journal.new.acts }
+    ensures tells { TellsOn (TellsOf (λ heard. OnOk result (D.asked d.new ≡ with_asked (D.asked d.old) (map Listen heard))))
+        D.Serves D.origin D.nudges unasked D.Awaits D.Meets d.old d.new journal.old journal.new }
 {
     for _ in rt.forever() {
         let event = sources.lock(rt).fds.take_event();

@@ -1,13 +1,12 @@
 //! One look for a message, and what comes of it.
-ghost use Rattle.std.specs.Prelude.{◌≡◌, ℕ, All, None};
+ghost use Rattle.std.specs.Prelude.{◌≡◌, ℕ, All};
 ghost use Rattle.message_pool.specs.Obtain.{IsNodeOf};
 ghost use Rattle.shared_queue.specs.Calls.{NextedBy};
-ghost use Rattle.looper_run.specs.Holding.{Sender, workplace, IsAt};
-ghost use Rattle.looper_run.specs.Carried.{KeepsLooper};
-ghost use Rattle.looper_run.specs.Ready.{RestsBetween, ServesBetween};
+ghost use Rattle.looper_run.specs.Holding.{Sender};
+ghost use Rattle.looper_run.specs.Going.{MayGoOn, MayAct, ComesBy};
 ghost use Rattle.looper_run.specs.Tests.{IsSameLooper};
 ghost use Rattle.looper_run.specs.Told.{AreRecycled};
-ghost use Rattle.looper_run.specs.Looks.{StepBy, WaitsAsTold, by_poster, IsAnswered};
+ghost use Rattle.looper_run.specs.Looks.{StepBy, WaitsAsTold, by_poster};
 ghost use Rattle.looper_run.specs.Round.{UnlessStopped};
 
 use crate::dispatch::dispatch;
@@ -64,12 +63,10 @@ impl<E: Recorder, P: Payload> Looper<E, P> {
         d: &mut D,
         now: u64,
     ) -> Step
-        requires at { IsAt queue.now pool.now self.old.held }
-        requires ready { ServesBetween D.Serves D.Awaits D.Meets d.old self.old.held }
-        ensures keeps { KeepsLooper D.Serves D.origin D.nudges D.asked IsSameLooper d.old d.new self.old.held self.new.held }
+        requires may { MayGoOn D.Serves D.Awaits D.Meets d.old queue.now pool.now self.old }
+        ensures comes { ComesBy D.Serves D.origin D.nudges D.asked D.Awaits D.Meets IsSameLooper (UnlessStopped result)
+            d.old d.new self.old self.new self.old.ended }
         ensures step { StepBy now self.old self.new result }
-        ensures rests { UnlessStopped result (RestsBetween D.Awaits D.Meets d.new self.new.held) }
-        ensures ended { self.new.ended ≡ self.old.ended }
     {
         let answer = self.poster.next(rt, queue, now, self.idle_owed);
         self.act(rt, pool, sources, d, answer)
@@ -84,15 +81,12 @@ impl<E: Recorder, P: Payload> Looper<E, P> {
         d: &mut D,
         answer: Nexted<PoolClaim<P>>,
     ) -> Step
-        requires answer { IsAnswered (D.Meets d.old) pool.now self.old answer }
-        requires serves { D.Serves d.old (workplace self.old.held) }
-        requires awaits { D.Awaits d.old None }
-        ensures keeps { KeepsLooper D.Serves D.origin D.nudges D.asked IsSameLooper d.old d.new self.old.held self.new.held }
+        requires may { MayAct D.Serves D.Awaits D.Meets d.old pool.now self.old answer }
+        ensures comes { ComesBy D.Serves D.origin D.nudges D.asked D.Awaits D.Meets IsSameLooper (UnlessStopped result)
+            d.old d.new self.old self.new self.old.ended }
         ensures step { (p : Sender) (now : ℕ) → NextedBy p self.old.held.poster now self.old.idle_owed answer
             → StepBy now (by_poster self.old p) self.new result }
         ensures waits { WaitsAsTold answer result }
-        ensures rests { UnlessStopped result (RestsBetween D.Awaits D.Meets d.new self.new.held) }
-        ensures ended { self.new.ended ≡ self.old.ended }
     {
         match answer {
             Nexted::Taken { number, now, node } => {
