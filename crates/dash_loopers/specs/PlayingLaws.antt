@@ -11,11 +11,10 @@ use Rattle.loop_model.specs.declared.journal.Act.{Act}
 use Rattle.loop_model.specs.declared.journal.Act.TheVariants.{Dispatch, Idle, Event, Vsync, Paint}
 use Rattle.dash_script.specs.declared.script.Script.{Script}
 use Rattle.looper_run.specs.Acts.{IsQuiet}
-use Rattle.run_model.specs.Asks.{entries_by}
+use Rattle.run_model.specs.Senders.{entries_by}
 use Rattle.run_model.specs.Control.{Timing, At, InBlock, NotBefore}
-use Rattle.run_model.specs.FrameRuns.{FrameAt}
-use Rattle.run_model.specs.Loopers.{Looper, first_looper}
-use Rattle.run_model.specs.Acts.{after_act}
+use Rattle.run_model.specs.FrameRecords.{FrameAt}
+use Rattle.run_model.specs.Loopers.{Looper, first_looper, after_act}
 use Rattle.run_model.proofs.RunLaws.{Lead-snoc}
 use Rattle.run_model.proofs.Growth.{Lead-entries}
 use Rattle.dash_loopers.specs.declared.player.Parts.{Parts}

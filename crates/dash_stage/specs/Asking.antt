@@ -3,7 +3,7 @@ use Rattle.std.specs.Prelude.{◌<◌, ◌≤◌, ℕ, List, length, slice_index
 use Rattle.frame_phases.specs.declared.entry.FrameEntry.{FrameEntry}
 use Rattle.dash_script.specs.declared.script.Block.{Block}
 use Rattle.dash_script.specs.declared.script.Script.{Script}
-use Rattle.run_model.specs.FrameTurns.{in_round}
+use Rattle.run_model.specs.FrameRecords.{in_round}
 use Rattle.run_model.specs.AskedSoFar.{HaveAsked, asked_so_far}
 use Rattle.dash_hall.specs.Hearing.{HasHeardAll, HaveHeardAllAt}
 use Rattle.dash_threads.specs.declared.thread.PostingThread.{PostingThread}

@@ -1,7 +1,7 @@
 -- What the steps of the top call answer.
 use Rattle.std.specs.Prelude.{ℕ, List, Bool}
 use Rattle.dash_script.specs.Accepting.{IsText}
-use Rattle.dash_stage.specs.Staged.{IsStaged, IsStagedByClock}
+use Rattle.run_model.specs.Run.{IsStaged, IsStagedByClock}
 use Rattle.run_model.specs.declared.report.Report.{Report}
 use Rattle.dashboard_cli.specs.Streams.{limit, Known, ReadsWhole}
 use Rattle.dashboard_cli.specs.Works.{Input, Work}

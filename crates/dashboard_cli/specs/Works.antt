@@ -10,7 +10,7 @@ use Rattle.frame_phases.specs.declared.entry.FrameRecord.{FrameRecord}
 use Rattle.run_model.specs.declared.report.Report.{Report}
 use Rattle.run_model.specs.Summary.{summary}
 use Rattle.run_model.specs.Text.{text as report_text}
-use Rattle.dash_stage.specs.Staged.{IsStaged, IsStagedByClock}
+use Rattle.run_model.specs.Run.{IsStaged, IsStagedByClock}
 use Rattle.trace_check.specs.declared.trace.Trace.{Trace as TraceData}
 use Rattle.trace_check.specs.Text.{IsLeastBad, IsText as IsTraceText, text as trace_text, trace_of}
 use Rattle.value_animator.specs.declared.plan.Values.{Values}

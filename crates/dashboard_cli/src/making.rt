@@ -5,7 +5,7 @@ ghost use Rattle.dashboard_cli.specs.Answers.{CountsReads};
 ghost use Rattle.dashboard_cli.specs.Steps.{HasRun, HasRunFree, Stops, IsNone, MakesProduct};
 ghost use Rattle.dashboard_cli.specs.Works.{inbox_scripts, plans, scripts, traces, work, work_by, IsInboxText};
 ghost use Rattle.inbox_queue.specs.InboxRun.{IsInboxRun};
-ghost use Rattle.dash_stage.specs.Staged.{IsStaged, IsStagedByClock};
+ghost use Rattle.run_model.specs.Run.{IsStaged, IsStagedByClock};
 ghost use Rattle.value_animator.specs.Plans.{AreValues};
 ghost use Rattle.value_animator.specs.Run.{IsRunOf};
 

@@ -19,10 +19,9 @@ use Rattle.run_model.specs.declared.report.Report.{Report}
 use Rattle.run_model.specs.Control.{is_controlled, are_before_quit}
 use Rattle.run_model.specs.Moments.{Mode, in_free_mode, AreOfClock}
 use Rattle.run_model.specs.Planned.{AreAsPlanned}
-use Rattle.run_model.specs.FrameTurns.{asked_then, timed_as_told}
+use Rattle.run_model.specs.Loopers.{asked_then, after_act, first_looper}
+use Rattle.run_model.specs.FrameRecords.{timed_as_told}
 use Rattle.run_model.proofs.AskedInTurn.{rising_sorted}
-use Rattle.run_model.specs.Acts.{after_act}
-use Rattle.run_model.specs.Loopers.{first_looper}
 use Rattle.run_model.specs.Run.{IsRun, IsRecordOf, IsControlled, IsFrameRun, IsLooperRun, all_entries, setting_of}
 use Rattle.run_model.specs.Text.{text, lines}
 use Rattle.run_model.proofs.Below.{each_below}

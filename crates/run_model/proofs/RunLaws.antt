@@ -9,11 +9,11 @@ use Rattle.frame_phases.specs.declared.entry.FrameEntry.{FrameEntry}
 use Rattle.dash_script.specs.declared.script.Script.{Script}
 use Rattle.loop_model.specs.declared.journal.Act.{Act}
 use Rattle.loop_model.specs.declared.journal.Act.TheVariants.{Dispatch, Idle, Event, Vsync, Paint}
-use Rattle.run_model.specs.Asks.{token_in, tokens_in, entries_by, AreFor}
+use Rattle.run_model.specs.Senders.{token_in, entries_by, AreFor}
+use Rattle.run_model.specs.AskedSoFar.{tokens_in}
 use Rattle.run_model.specs.Moments.{Mode}
 use Rattle.run_model.specs.Planned.{Timed, lines_on, IsPlanned, MakeCalls}
-use Rattle.run_model.specs.Loopers.{Looper, Sent}
-use Rattle.run_model.specs.Acts.{after_act, MayCome, Lead, sent_on}
+use Rattle.run_model.specs.Loopers.{Looper, Sent, after_act, MayCome, Lead, sent_on}
 use Rattle.run_model.specs.Control.{Before, Timing, before, befores, befores_from, befores_after, are_on_time}
 
 -- a sender's entries in a longer history

@@ -1,7 +1,9 @@
--- The controller's own calls on a queue, and when a history in lockstep is timely.
+-- The controller's own calls on a queue, how it moves the queues' times, and when a history in lockstep is timely.
 use Rattle.std.specs.Prelude.{ℕ, ◌==◌, Bool, true, false, ◌&&◌, ◌||◌, not, nat_le, nat_lt, List, [], ◌∷◌, ◌++◌, Option, Some, None, is_some, count_by}
-use Rattle.std.specs.Prelude.{if◌then◌else◌}
-use Rattle.std.specs.List.{list_any}
+use Rattle.std.specs.Prelude.{if◌then◌else◌, ◌≡◌, map, slice_get, ◌⊎◌}
+use Rattle.std.specs.List.{list_any, AllByRecursion, enumerate_from, fold}
+use Rattle.std.specs.Option.{option_map, option_map_or}
+use mathlib.Core.List.{IsPrefix}
 use Rattle.loop_model.specs.declared.call.Call.{Call}
 use Rattle.loop_model.specs.declared.call.Call.TheVariants.{Quit, Advance, Halt}
 use Rattle.loop_model.specs.declared.reply.Reply.{Reply}
@@ -12,16 +14,19 @@ use Rattle.loop_model.specs.Entries.{moment_of, is_quit_done, is_disposed, is_ha
 use Rattle.loop_model.specs.Base.{empty_base}
 use Rattle.loop_model.specs.Pick.{first_eligible, pick}
 use Rattle.loop_model.specs.Answers.{clock, has_disposed, quit_place}
-use Rattle.run_model.specs.Asks.{entries_by}
+use Rattle.loop_model.specs.declared.record.QueueRecord.{QueueRecord}
+use Rattle.frame_phases.specs.Frames.{is_pulse}
+use Rattle.dash_script.specs.declared.script.Script.{Script}
+use Rattle.dash_script.specs.declared.script.Block.{Block}
+use Rattle.run_model.specs.Senders.{entries_by, history_of}
+use Rattle.run_model.specs.FrameRecords.{millis_up}
 
 abbrev pub is_advance : Call → Bool
 is_advance (Advance now) = true
 is_advance _ = false
-
 abbrev pub is_halt : Call → Bool
 is_halt (Halt now) = true
 is_halt _ = false
-
 abbrev pub is_safe_quit : Call → Bool
 is_safe_quit (Quit safe now) = safe
 is_safe_quit _ = false
@@ -106,6 +111,8 @@ comes_before_quit threads sender past e = not (nat_lt e.sender threads) || not (
 unfoldable pub are_before_quit : ℕ → ℕ → List Entry → Bool
 are_before_quit threads sender es = each_behind (comes_before_quit threads sender) [] es
 
+-- ---- when a sender's calls come
+
 -- what stood before an entry: the queue's time, and whether the queue was disposed of
 pub record Before : Type 0 where
   pub clock : ℕ
@@ -146,3 +153,103 @@ abbrev pub are_on_time : List Timing → List Before → Bool
 are_on_time [] [] = true
 are_on_time (t ∷ ts) (b ∷ bs) = is_on_time t b && are_on_time ts bs
 are_on_time _ _ = false
+
+-- ---- how the queues' times are moved: all together, and only to a time at which something may come
+
+-- a move of a queue's time: to when, and the due time of the first message that might be dispatched just before it, if there was one
+pub record Move : Type 0 where
+  pub to : ℕ
+  pub due : Option ℕ
+
+-- the moves of a queue's time by this sender among these entries, behind others
+abbrev pub moves_after : ℕ → List Entry → List Entry → List Move
+moves_after sender past [] = []
+moves_after sender past (e ∷ es) =
+    (if e.sender == sender && is_advance e.call
+    then record { to = moment_of e.call; due = option_map when_of (first_eligible (empty_base 0) past) } ∷ [] else [])
+    ++ moves_after sender (past ++ e ∷ []) es
+
+-- the moves of a queue's time by this sender, in order
+unfoldable pub moves : ℕ → List Entry → List Move
+moves sender es = moves_after sender [] es
+
+-- the times to which these moves go
+abbrev pub move_times : List Move → List ℕ
+move_times ms = map (λ m. m.to) ms
+
+-- a block has this time, or the end
+abbrev pub is_planned_time : Script → ℕ → Bool
+is_planned_time s t = t == s.end || list_any (λ b. b.time == t) s.blocks
+
+-- just before the move of this number the first message that might be dispatched was due at this time
+abbrev pub was_due_at : ℕ → ℕ → List Move → Bool
+was_due_at number t ms = option_map_or (λ m. option_map_or (λ d. d == t) m.due false) (slice_get ms number) false
+
+-- a pulse may come at this time in milliseconds, rounded up
+pub record IsPulseTime (period t : ℕ) : Type 0 where
+  pub stamp : ℕ
+  pub pulse : is_pulse period stamp ≡ true
+  pub rounded : millis_up stamp ≡ t
+
+-- the move of this number may go to this time: a block's, the end, one at which the first message that may be dispatched on a queue is due, or a pulse's
+abbrev pub MayMoveTo : Script → List (List Move) → ℕ → ℕ → Type 0
+MayMoveTo s all number t = (is_planned_time s t || list_any (was_due_at number t) all ≡ true) ⊎ IsPulseTime s.period t
+
+-- the moves of main, whose queue comes first
+abbrev pub main_moves : List (List Move) → List Move
+main_moves [] = []
+main_moves (ms ∷ all) = ms
+
+-- each move of main goes to such a time, and each queue is moved with main, for as long as it is moved
+pub record AreMovedTogether (s : Script) (all : List (List Move)) : Type 0 where
+  pub due : AllByRecursion (λ (number, t). MayMoveTo s all number t) (enumerate_from 0 (move_times (main_moves all)))
+  pub together : AllByRecursion (λ (ms : List Move). IsPrefix (move_times ms) (move_times (main_moves all))) all
+
+-- ---- calls of one kind that come first at their time, and times that are reached
+
+-- the entry moves the time; or it was fresh before, and the entry is of this kind
+abbrev pub fresh_behind : (Entry → Bool) → Bool → Entry → Bool
+fresh_behind theirs fresh e = is_advance e.call || (fresh && theirs e)
+
+-- since the time was last moved, or from the start, only entries of this kind have come
+unfoldable pub is_fresh : (Entry → Bool) → List Entry → Bool
+is_fresh theirs es = fold (fresh_behind theirs) true es
+
+-- the entry moves the time to this one
+abbrev pub moves_to : ℕ → Entry → Bool
+moves_to time e = is_advance e.call && moment_of e.call == time
+
+-- the time is the start's, or the queue's time was moved to it
+unfoldable pub is_reached : ℕ → List Entry → Bool
+is_reached time es = time == 0 || list_any (moves_to time) es
+
+-- so it is with the time of each of these blocks
+abbrev pub AreReached : List Block → List Entry → Type 0
+AreReached blocks es = AllByRecursion (λ (b : Block). is_reached b.time es ≡ true) blocks
+
+-- ---- the threads' calls come before the loopers run a round, and main's time comes to each block
+
+-- the entry is a thread's (a sender below this number)
+abbrev pub is_threads : ℕ → Entry → Bool
+is_threads threads e = nat_lt e.sender threads
+
+-- no thread's entry; or one behind a disposal; or one before which only threads have called since the time was last moved
+abbrev pub comes_first : ℕ → List Entry → Entry → Bool
+comes_first threads past e = not (is_threads threads e) || (has_disposed (empty_base 0) past || is_fresh (is_threads threads) past)
+
+-- so it is with each entry and what stood before it
+unfoldable pub come_first : ℕ → List Entry → Bool
+come_first threads es = each_behind (comes_first threads) [] es
+
+-- on each queue each thread's call comes where only threads have called since the time was last moved, or behind the queue's disposal
+abbrev pub AreBlocksFirst : Script → List QueueRecord → Type 0
+AreBlocksFirst s queues = AllByRecursion (λ (q : QueueRecord). come_first s.threads (history_of q) ≡ true) queues
+
+-- the history of main, whose queue comes first
+abbrev pub main_entries : List QueueRecord → List Entry
+main_entries [] = []
+main_entries (q ∷ queues) = history_of q
+
+-- main's time was moved to the time of each block, but for one at the start
+abbrev pub AreBlocksReached : Script → List QueueRecord → Type 0
+AreBlocksReached s queues = AreReached s.blocks (main_entries queues)

@@ -1,23 +1,27 @@
--- What a looper comes to: its gauges, its traversal, its rules, and the calls and frame callbacks that each step adds.
-use Rattle.std.specs.Prelude.{ℕ, ◌+◌, ◌-◌, ◌==◌, min, Bool, true, false, ◌&&◌, ◌||◌, not, nat_lt, nat_le, List, [], ◌∷◌, ◌++◌, Option, Some, None}
-use Rattle.std.specs.Prelude.{is_some, map, fold, slice_get, slice_set, replicate, length, if◌then◌else◌}
-use Rattle.std.specs.List.{filter_map, zip, enumerate_from}
-use Rattle.std.specs.Option.{option_map_or}
+-- What a looper comes to: its gauges, its traversal, its rules, and the calls and frame callbacks that each act in its journal causes.
+use Rattle.std.specs.Prelude.{ℕ, ◌+◌, ◌-◌, ◌==◌, min, Bool, true, false, ◌&&◌, ◌||◌, not, nat_lt, nat_le, List, [], ◌∷◌, ◌++◌, Option, Some, None, is_some, map}
+use Rattle.std.specs.Prelude.{fold, slice_get, slice_set, replicate, length, if◌then◌else◌, ◌≡◌, ◌/◌, filter}
+use Rattle.std.specs.List.{filter_map, zip, enumerate_from, range_with_len}
+use Rattle.std.specs.Option.{option_map_or, MatchOption}
 use Rattle.loop_model.specs.declared.post.Post.{Post as PostData}
 use Rattle.loop_model.specs.declared.call.Call.TheVariants.{Post, Barrier, Next}
 use Rattle.loop_model.specs.declared.reply.Reply.{Reply}
-use Rattle.loop_model.specs.declared.reply.Reply.TheVariants.{Dispatched}
-use Rattle.loop_model.specs.Posts.{moment_after}
+use Rattle.loop_model.specs.declared.reply.Reply.TheVariants.{Dispatched, Disposed}
+use Rattle.loop_model.specs.Posts.{moment_after, post_at}
+use Rattle.loop_model.specs.declared.journal.Act.{Act}
+use Rattle.loop_model.specs.declared.journal.Act.TheVariants.{Paint, Dispatch, Idle, Event, Vsync}
+use Rattle.loop_model.specs.declared.entry.Entry.{Entry}
+use Rattle.frame_phases.specs.declared.entry.FrameEntry.{FrameEntry}
+use Rattle.frame_phases.specs.Frames.{is_pulse}
+use Rattle.frame_phases.specs.Pulses.{comes_after}
 use Rattle.dash_script.specs.declared.script.Rule.{Rule}
 use Rattle.dash_script.specs.declared.script.Script.{Script}
-use Rattle.loop_model.specs.declared.journal.Act.{Act}
-use Rattle.loop_model.specs.declared.journal.Act.TheVariants.{Paint}
-use Rattle.run_model.specs.Asks.{Ask, Makes, Unbars}
-use Rattle.run_model.specs.Senders.{looper_of, gauge_line, gauge_looper, frame_handler, animation_id, animation_phase, traversal_id, traversal_phase}
-use Rattle.run_model.specs.Planned.{sent_by, frame_due}
-use Rattle.run_model.specs.FrameAsks.{FrameAsk, Posts}
-use Rattle.run_model.specs.Control.{Timing, At}
-use Rattle.run_model.specs.FrameRuns.{FrameAt}
+use Rattle.run_model.specs.FrameRecords.{TimedAsk, asked_in_rounds, lines_ask_then, millis_up, FrameAsk, Posts, asks_to_run, FrameAt, frame_ids, is_frame_from}
+use Rattle.run_model.specs.FrameRecords.{has_stamp, place_after, frames_after}
+use Rattle.run_model.specs.Senders.{Ask, Makes, Unbars, plain, call_of, looper_of, gauge_line, gauge_looper, frame_handler, animation_id, animation_phase}
+use Rattle.run_model.specs.Senders.{traversal_id, traversal_phase}
+use Rattle.run_model.specs.Planned.{sent_by, frame_due, frame_message, lines_of}
+use Rattle.run_model.specs.Control.{Timing, At, NotBefore}
 
 pub record Gauge : Type 0 where
   pub value : ℕ
@@ -169,3 +173,80 @@ delivered s q now ids m a =
 -- the looper takes a message
 abbrev pub and_takes : ℕ → ℕ → ℕ → Looper → Looper
 and_takes q n now a = record a { sent = a.sent ++ record { queue = q; ask = Makes (Next now); reply = Some (Dispatched n); timing = At now } ∷ [] }
+
+-- ---- the acts of its journal
+
+-- a dispatch at this time runs the frame that begins at this place, or none; what was painted before is told by then
+abbrev pub running : Option ℕ → ℕ → Looper → Looper
+running frame now a = record a { painted = []; place = place_after a.place frame; frames = frames_after a.frames frame now }
+
+-- a dispatch, by its message
+abbrev pub dispatched : Script → ℕ → List FrameEntry → Option ℕ → ℕ → ℕ → Looper → Option PostData → Looper
+dispatched s q fs frame n now a None = a
+dispatched s q fs frame n now a (Some m) =
+    delivered s q now (frame_ids fs frame) m (and_takes q n now (and_starts q m (running frame now a)))
+
+-- what looper q has come to after an act, by its queue's history and its frame record; a dispatch runs the frame that
+-- begins at this place, or none
+unfoldable pub after_act : Script → ℕ → List Entry → List FrameEntry → Option ℕ → Looper → Act → Looper
+after_act s q es fs frame a (Dispatch n now route) =
+    record (dispatched s q fs frame n now a (post_at es n)) { painted = [] }
+after_act s q es fs frame a (Vsync stamp) =
+    record a {
+      sent = a.sent
+          ++ record { queue = q; ask = Makes (Post (frame_message q 0 0 (stamp / 1000000))); reply = None; timing = NotBefore (millis_up stamp) } ∷ [];
+      stamp = stamp;
+      awaits = true;
+    }
+after_act s q es fs frame a (Paint g v) = record a { painted = a.painted ++ Paint g v ∷ [] }
+after_act s q es fs frame a (Idle i k) = a
+after_act s q es fs frame a (Event f e m) = a
+
+-- a dispatch is of an accepted post, runs a frame only where its message starts one that a pulse awaits, and behind the frames before, that frame has the
+-- stamp of the latest pulse, and what was painted just before is what it paints
+pub record MayDispatch (s : Script) (q : ℕ) (es : List Entry) (fs : List FrameEntry) (frame : Option ℕ) (a : Looper) (n now : ℕ) : Type 0 where
+  pub accepted : is_some (post_at es n) ≡ true
+  pub starts : (not (is_some frame) || option_map_or (starts_frame q) (post_at es n) false) ≡ true
+  pub awaited : (not (is_some frame) || a.awaits) ≡ true
+  pub place : is_frame_from fs a.place frame ≡ true
+  pub stamped : has_stamp fs frame a.stamp ≡ true
+  pub painted : (dispatched s q fs frame n now a (post_at es n)).painted ≡ a.painted
+
+-- a pulse comes at a positive multiple of the period, or at the greatest u64, after the pulse before it, and only once that one's frame message is taken
+pub record MayPulse (s : Script) (a : Looper) (stamp : ℕ) : Type 0 where
+  pub painted : a.painted ≡ []
+  pub awaited : a.awaits ≡ false
+  pub pulse : is_pulse s.period stamp ≡ true
+  pub later : comes_after a.stamp stamp ≡ true
+
+-- the act may come next: paints stand nowhere but just before the dispatch that makes them
+abbrev pub MayCome : Script → ℕ → List Entry → List FrameEntry → Option ℕ → Looper → Act → Type 0
+MayCome s q es fs frame a (Dispatch n now route) = MayDispatch s q es fs frame a n now
+MayCome s q es fs frame a (Paint g v) = frame ≡ None
+MayCome s q es fs frame a (Vsync stamp) = (frame ≡ None) × MayPulse s a stamp
+MayCome s q es fs frame a _ = (frame ≡ None) × (a.painted ≡ [])
+
+-- the acts lead a looper from one state to another
+abbrev pub Lead : Script → ℕ → List Entry → List FrameEntry → Looper → List Act → Looper → Type 0
+Lead s q es fs a [] b = a ≡ b
+Lead s q es fs a (x ∷ xs) b = (frame : Option ℕ) × (MayCome s q es fs frame a x × Lead s q es fs (after_act s q es fs frame a x) xs b)
+
+-- the calls on one queue
+abbrev pub sent_on : ℕ → List Sent → List Sent
+sent_on q xs = filter (λ x. x.queue == q) xs
+
+-- the last call of a looper that is not main: the look for a message that disposes of its queue
+abbrev pub closing : ℕ → ℕ → List Sent
+closing q now =
+    if q == 0 then [] else record { queue = q; ask = Makes (Next now); reply = Some Disposed; timing = NotBefore 0 } ∷ []
+
+-- the entry makes the call, with the reply where that is told
+pub record IsSent (tokens : List ℕ) (x : Sent) (e : Entry) : Type 0 where
+  pub call : plain e.call ≡ call_of tokens x.ask
+  pub reply : MatchOption x.reply (Unit {0}) (λ r. e.reply ≡ r)
+
+-- what each asks of a looper's choreographer, and when: a thread by its lines, and the looper by the frames that its dispatches run and by what its acts post
+abbrev pub asked_then : Script → ℕ → Looper → List (List TimedAsk)
+asked_then s q final =
+    map (λ thread. lines_ask_then q (lines_of thread s.blocks)) (range_with_len 0 s.threads)
+    ++ asked_in_rounds (asks_to_run final.frames) ∷ asked_in_rounds final.posted ∷ []

@@ -8,26 +8,21 @@ use Rattle.loop_model.specs.Answers.{Setting}
 use Rattle.loop_model.specs.Legal.{IsLegal, AreNumbered}
 use Rattle.loop_model.specs.Chain.{IsChainFrom}
 use Rattle.loop_model.specs.Dispatches.{act_dispatch, call_dispatch}
+use Rattle.loop_model.specs.declared.journal.Journal.{Journal}
+use Rattle.loop_model.specs.declared.record.QueueRecord.{QueueRecord}
 use Rattle.frame_phases.specs.declared.entry.FrameRecord.{FrameRecord}
 use Rattle.frame_phases.specs.Frames.{lawful}
 use Rattle.frame_phases.specs.Pulses.{are_stamped}
 use Rattle.dash_script.specs.declared.script.Script.{Script}
 use Rattle.dash_script.specs.Causes.{phase_count}
-use Rattle.loop_model.specs.declared.journal.Journal.{Journal}
-use Rattle.loop_model.specs.declared.record.QueueRecord.{QueueRecord}
 use Rattle.run_model.specs.declared.report.Report.{Report}
-use Rattle.run_model.specs.Histories.{history_of}
-use Rattle.run_model.specs.Asks.{AreFor, entries_by}
-use Rattle.run_model.specs.Senders.{looper_sender, controller, sender_count}
-use Rattle.run_model.specs.Moments.{Mode, IfLockstep, IsStart, AreOfClock}
+use Rattle.run_model.specs.Senders.{history_of, AreFor, entries_by, looper_sender, controller, sender_count}
+use Rattle.run_model.specs.Moments.{Mode, IfLockstep, IsStart, AreOfClock, in_lockstep, in_free_mode}
 use Rattle.run_model.specs.Planned.{lines_of, labels_on, lines_on, times_on, AreAsPlanned}
-use Rattle.run_model.specs.Control.{is_controlled, ends_halted, is_called_in_time, are_before_quit, befores, InBlock, are_on_time, each_behind}
-use Rattle.run_model.specs.Loopers.{Looper, Sent, first_looper}
-use Rattle.run_model.specs.Acts.{Lead, sent_on, closing, IsSent}
-use Rattle.run_model.specs.Moves.{moves, AreMovedTogether}
-use Rattle.run_model.specs.FrameRuns.{are_run_then, are_whole}
-use Rattle.run_model.specs.FrameAsks.{asks_in}
-use Rattle.run_model.specs.FrameTurns.{asked_then, AreAskedInTurn}
+use Rattle.run_model.specs.Control.{is_controlled, ends_halted, is_called_in_time, are_before_quit, befores, InBlock, are_on_time, each_behind, moves}
+use Rattle.run_model.specs.Control.{AreMovedTogether, AreBlocksFirst, AreBlocksReached}
+use Rattle.run_model.specs.Loopers.{Looper, Sent, first_looper, Lead, sent_on, closing, IsSent, asked_then}
+use Rattle.run_model.specs.FrameRecords.{are_run_then, are_whole, asks_in, AreAskedInTurn}
 
 abbrev pub setting_of : QueueRecord → Setting
 setting_of r = record { main = r.main; lockstep = r.lockstep; senders = r.senders }
@@ -172,3 +167,22 @@ pub record IsRun (m : Mode) (s : Script) (r : Report) : Type 0 where
   pub frames : AreFramesOf s r
   pub loopers : AreLoopersOf m s r
   pub timely : AreTimelyOf m s r
+
+-- the report is a run of the script in lockstep: the history of each looper's queue is one that a queue of one thread has, each thread's calls there are those
+-- that its lines plan, one for one and in order, each looper's are those that the acts in its journal cause, the controller's move all queues' times on
+-- together, to times at which something may come and no further than the end, and close the queue there, each frame history is lawful and has the posts, the
+-- removals and the frames that the threads' lines and the looper's acts ask for, each as often, each of these frames takes all phases, and each call comes at
+-- its time; and on each queue each thread's call comes where only threads have called since the queue's time was last moved, or behind its disposal; and main's
+-- time was moved to the time of each block, but for one at the start
+pub record IsStaged (s : Script) (r : Report) : Type 0 where
+  pub run : IsRun in_lockstep s r
+  pub blocks : AreBlocksFirst s r.queues
+  pub reached : AreBlocksReached s r.queues
+
+-- the report is a run of the script by a clock that shows such numbers: the history of each looper's queue is one that a queue of one thread has, at moments of
+-- the clock or of the queue, each thread's calls there are those that its lines plan, one for one and in order, no due time, barrier or quit of them counted
+-- from before its block, each looper's are those that the acts in its journal cause, the controller's close the queue at the end or later, behind the threads'
+-- calls, main ends with its halt, and each frame history is lawful and has the posts, the removals and the frames that the threads' lines and the looper's acts
+-- ask for, each as often, and each of these frames takes all phases
+pub record IsStagedByClock (shows : ℕ → Bool) (s : Script) (r : Report) : Type 0 where
+  pub run : IsRun (in_free_mode shows r.start) s r

@@ -22,7 +22,7 @@ use Rattle.loop_model.specs.declared.journal.Act.TheVariants.{Idle, Event, Paint
 use Rattle.loop_model.specs.declared.journal.Journal.{Journal}
 use Rattle.loop_model.specs.declared.record.QueueRecord.{QueueRecord}
 use Rattle.run_model.specs.declared.report.Report.{Report}
-use Rattle.run_model.specs.Histories.{history_of}
+use Rattle.run_model.specs.Senders.{history_of}
 
 -- a message's handler, and its number or its callback
 abbrev pub subject : PostData → Words

@@ -17,7 +17,7 @@ use Rattle.dash_hall.specs.Hearing.{AtEach, HaveHeard}
 use Rattle.dash_hall.specs.Kits.{AreUnseen, IsHall}
 use Rattle.dash_hall.specs.ByClock.{is_by}
 use Rattle.loop_model.specs.declared.entry.Entry.{Entry}
-use Rattle.run_model.specs.Asks.{entries_by}
+use Rattle.run_model.specs.Senders.{entries_by}
 use Rattle.dash_hall.proofs.Clocking.{clocked_same, if_free}
 use Rattle.dash_threads.specs.declared.thread.PostingThread.{PostingThread}
 use Rattle.dash_threads.specs.Threads.{IsThread, IsUpTo, AreByClock, ThreadKeeps}

@@ -10,7 +10,7 @@ use Rattle.loop_model.specs.Answers.{Setting, clock}
 use Rattle.loop_model.specs.Legal.{AreNumbered}
 use Rattle.loop_model.proofs.NumberLaws.{AreNumbered-known}
 use Rattle.looper_run.specs.Holding.{Sender}
-use Rattle.run_model.specs.Asks.{entries_by}
+use Rattle.run_model.specs.Senders.{entries_by}
 use Rattle.run_model.specs.Moments.{Mode, IsOfClock, AreOfClock, AreOfClockAfter, has_moment}
 use Rattle.run_model.specs.Run.{all_entries}
 use Rattle.run_model.proofs.RunLaws.{entries_by-append}
