@@ -7,8 +7,8 @@ use Rattle.run_model.specs.declared.report.Report.{Report}
 use Rattle.run_model.specs.Run.{IsStaged, IsStagedByClock}
 use Rattle.dashboard_cli.specs.Answers.{HasInput, MakesOf}
 use Rattle.dashboard_cli.specs.Steps.{HasRun, HasRunFree}
-use Rattle.dashboard_cli.specs.Streams.{limit, Known, ReadsWhole}
-use Rattle.dashboard_cli.specs.Works.{work_by}
+use Rattle.dashboard_cli.specs.Works.{limit, Known, ReadsWhole}
+use Rattle.dashboard_cli.specs.Words.{work_by}
 use Rattle.dashboard_cli.specs.declared.making.Returned.{Returned}
 use Rattle.dashboard_cli.specs.declared.words.Command.{Command}
 

@@ -1,9 +1,23 @@
--- The commands, and the words that each is written with.
-use Rattle.std.specs.Prelude.{◌≡◌, ◌⊎◌, ◌^◌, ◌<◌, ℕ, List, [], ◌∷◌, codes, map, String, string_bytes}
+-- The commands: the words that each is written with, what each reads, and what it makes of that.
+use Rattle.std.specs.Prelude.{◌≡◌, ◌⊎◌, ◌^◌, ◌<◌, ℕ, List, [], ◌∷◌, codes, map, String, string_bytes, Bool, true}
 use Rattle.std.specs.declared.alloc.Global.{Global}
 use Rattle.std.specs.Fmt.{decimal}
+use Rattle.dash_script.specs.Editions.{up}
+use Rattle.dash_script.specs.Accepting.{IsText}
+use Rattle.trace_check.specs.Text.{IsText as IsTraceText}
+use Rattle.value_animator.specs.Reading.{IsText as IsValuesText}
+use Rattle.run_model.specs.Summary.{summary}
+use Rattle.run_model.specs.Text.{text as report_text}
+use Rattle.run_model.specs.Run.{IsStaged, IsStagedByClock}
+use Rattle.inbox_queue.specs.InboxRun.{IsInboxRun}
+use Rattle.dashboard_cli.specs.Works.{scripts, Input, Work, Writes, only_report, nothing}
+use Rattle.dashboard_cli.specs.OtherWorks.{inbox_scripts, plans, traces, no_input, histories_text, only_frames, only_inbox, IsGenerated, IsInboxText, Prints}
+use Rattle.dashboard_cli.specs.OtherWorks.{RunsValues}
 use Rattle.dashboard_cli.specs.declared.words.Command.{Command}
-use Rattle.dashboard_cli.specs.declared.words.Command.TheVariants.{Run, RunFree, Text, Migrate, Make, MakeRun, Trace, Check, Animate, Inbox}
+use Rattle.dashboard_cli.specs.InboxText.{inbox_text}
+use Rattle.dashboard_cli.specs.Verdicts.{verdict_text, IsVerdict}
+use Rattle.dashboard_cli.specs.declared.making.Returned.{Returned}
+use Rattle.dashboard_cli.specs.declared.words.Command.TheVariants as command
 
 -- the words as texts
 abbrev pub texts : List (String Global) → List (List ℕ)
@@ -11,22 +25,22 @@ texts = map string_bytes
 
 -- the words are a spelling of the command
 abbrev pub IsSpelled : Command → List (List ℕ) → Type 0
-IsSpelled Run words = words ≡ codes "run" ∷ []
-IsSpelled RunFree words = words ≡ codes "run" ∷ codes "--free" ∷ []
-IsSpelled Text words = words ≡ codes "text" ∷ []
-IsSpelled Migrate words = words ≡ codes "text" ∷ codes "--to" ∷ codes "2" ∷ []
-IsSpelled Trace words = words ≡ codes "trace" ∷ []
-IsSpelled Check words = words ≡ codes "check" ∷ []
-IsSpelled Animate words = words ≡ codes "animate" ∷ []
-IsSpelled Inbox words = words ≡ codes "inbox" ∷ []
-IsSpelled (Make number) words = words ≡ codes "make" ∷ decimal number ∷ []
-IsSpelled (MakeRun number) words = (words ≡ codes "make" ∷ decimal number ∷ codes "--run" ∷ [])
+IsSpelled command.Run words = words ≡ codes "run" ∷ []
+IsSpelled command.RunFree words = words ≡ codes "run" ∷ codes "--free" ∷ []
+IsSpelled command.Text words = words ≡ codes "text" ∷ []
+IsSpelled command.Migrate words = words ≡ codes "text" ∷ codes "--to" ∷ codes "2" ∷ []
+IsSpelled command.Trace words = words ≡ codes "trace" ∷ []
+IsSpelled command.Check words = words ≡ codes "check" ∷ []
+IsSpelled command.Animate words = words ≡ codes "animate" ∷ []
+IsSpelled command.Inbox words = words ≡ codes "inbox" ∷ []
+IsSpelled (command.Make number) words = words ≡ codes "make" ∷ decimal number ∷ []
+IsSpelled (command.MakeRun number) words = (words ≡ codes "make" ∷ decimal number ∷ codes "--run" ∷ [])
     ⊎ (words ≡ codes "make" ∷ codes "--run" ∷ decimal number ∷ [])
 
 -- the number of the command is a u32
 abbrev pub IsInRange : Command → Type 0
-IsInRange (Make number) = number < 2 ^ 32
-IsInRange (MakeRun number) = number < 2 ^ 32
+IsInRange (command.Make number) = number < 2 ^ 32
+IsInRange (command.MakeRun number) = number < 2 ^ 32
 IsInRange command = Unit {0}
 
 -- the words are this command
@@ -37,3 +51,36 @@ pub record IsAsked (words : List (List ℕ)) (command : Command) : Type 0 where
 -- the words are a spelling of some command
 abbrev pub IsListed : List (List ℕ) → Type 0
 IsListed words = (command : Command) × IsAsked words command
+
+-- what each command reads
+abbrev pub reads_of : Command → Input
+reads_of command.Run = scripts
+reads_of command.RunFree = scripts
+reads_of command.Text = scripts
+reads_of command.Migrate = scripts
+reads_of (command.Make number) = no_input
+reads_of (command.MakeRun number) = no_input
+reads_of command.Trace = scripts
+reads_of command.Check = traces
+reads_of command.Animate = plans
+reads_of command.Inbox = inbox_scripts
+
+-- what each command makes of it, by the numbers that the clock shows
+abbrev pub makes_by : (ℕ → Bool) → Command → List ℕ → List ℕ → Returned → Type 0
+makes_by shows command.Run = Writes IsText IsStaged report_text only_report
+makes_by shows command.RunFree = Writes IsText (IsStagedByClock shows) report_text only_report
+makes_by shows command.Text = Prints IsText (λ script. script)
+makes_by shows command.Migrate = Prints IsText up
+makes_by shows (command.Make number) = Prints (IsGenerated number) (λ script. script)
+makes_by shows (command.MakeRun number) = Writes (IsGenerated number) IsStaged (summary number) only_report
+makes_by shows command.Trace = Writes IsText IsStaged histories_text only_report
+makes_by shows command.Check = Writes IsTraceText (λ trace. IsVerdict trace.queues) verdict_text (λ verdict. nothing)
+makes_by shows command.Animate = Writes IsValuesText RunsValues (λ made. made.0) (λ made. only_frames made.1)
+makes_by shows command.Inbox = Writes IsInboxText IsInboxRun inbox_text only_inbox
+
+-- what this command does
+abbrev pub work_by : (ℕ → Bool) → Command → Work
+work_by shows c = record { reads = reads_of c; Makes = makes_by shows c }
+-- the same of a command that reads no clock
+abbrev pub work : Command → Work
+work c = work_by (λ reading. true) c
