@@ -11,15 +11,13 @@ use Rattle.dash_script.specs.declared.script.Command.{Command}
 use Rattle.dash_script.specs.declared.script.Command.TheVariants.{Frame, Unframe}
 use Rattle.run_model.specs.Planned.{Timed, frame_due}
 
+-- a frame begins; and the identity of the callback that an entry posts, or hands out to run: callbacks are numbered in the order of posting
 abbrev pub is_begin : FrameEntry → Bool
 is_begin (Begin v s t) = true
 is_begin _ = false
-
 abbrev pub posted_id : FrameEntry → Option ℕ
 posted_id (Posted c) = Some c.id
 posted_id _ = None
-
--- the identity of the callback that an entry hands out to run; callbacks are numbered in the order of posting
 abbrev pub ran_id : List ℕ → FrameEntry → Option ℕ
 ran_id ids (Ran n) = slice_get ids n
 ran_id ids _ = None
@@ -34,63 +32,51 @@ abbrev pub is_frame_from : List FrameEntry → ℕ → Option ℕ → Bool
 is_frame_from fs first None = true
 is_frame_from fs first (Some place) = nat_le first place && option_map_or is_begin (slice_get fs place) false
 
--- a frame begins here, with this stamp
+-- a frame begins here, with this stamp; the frame that begins at a place has this stamp, or there is none
 abbrev pub begins_with : ℕ → FrameEntry → Bool
 begins_with stamp (Begin vsync start time) = vsync == stamp
 begins_with stamp _ = false
-
--- the frame that begins at a place has this stamp, or there is none
 abbrev pub has_stamp : List FrameEntry → Option ℕ → ℕ → Bool
 has_stamp fs None stamp = true
 has_stamp fs (Some place) stamp = option_map_or (begins_with stamp) (slice_get fs place) false
 
+-- a frame that a dispatch ran: where it begins in the frame record, and the time of the dispatch; one frame more, where a dispatch runs one; and from where on
+-- the next may begin
+pub record FrameAt : Type 0 where
+  pub place : ℕ
+  pub now : ℕ
+abbrev pub frames_after : List FrameAt → Option ℕ → ℕ → List FrameAt
+frames_after xs None now = xs
+frames_after xs (Some place) now = xs ++ record { place = place; now = now } ∷ []
 abbrev pub place_after : ℕ → Option ℕ → ℕ
 place_after first None = first
 place_after first (Some place) = place + 1
 
--- a time in milliseconds in nanoseconds, at most the greatest number of 64 bits
+-- a time in milliseconds in nanoseconds, at most the greatest number of 64 bits; and one in nanoseconds in whole milliseconds, rounded up
 abbrev pub nanos_of : ℕ → ℕ
 nanos_of millis = min (millis * 1000000) (2 ^ 64 - 1)
-
--- a time in nanoseconds in whole milliseconds, rounded up
 abbrev pub millis_up : ℕ → ℕ
 millis_up nanos = (nanos + 999999) / 1000000
 
--- the moment at which a frame starts, or a phase is taken
+-- the moments of the frame that begins at a place: its start, and those at which its phases are taken
 abbrev pub moment_in : FrameEntry → Option ℕ
 moment_in (Begin vsync start time) = Some start
 moment_in (Take phase now time) = Some now
 moment_in _ = None
-
--- the moments of the frame that begins at a place: its start, and those at which its phases are taken
 abbrev pub frame_moments : List FrameEntry → ℕ → List ℕ
 frame_moments fs place = filter_map moment_in (take 1 (drop place fs) ++ before_first is_begin (drop (place + 1) fs))
 
--- a frame that a dispatch ran: where it begins in the frame record, and the time of the dispatch
-pub record FrameAt : Type 0 where
-  pub place : ℕ
-  pub now : ℕ
-
--- the frame started at the time of its dispatch, and took each phase then
+-- each of the frames started at the time of its dispatch, and took each phase then
 abbrev pub is_run_then : List FrameEntry → FrameAt → Bool
 is_run_then fs x = list_all (λ n. n == nanos_of x.now) (frame_moments fs x.place)
-
--- so it is with each of these frames
 abbrev pub are_run_then : List FrameEntry → List FrameAt → Bool
 are_run_then fs xs = list_all (is_run_then fs) xs
 
--- the frame took all phases, of which there are so many
+-- each of the frames took all phases, of which there are so many
 abbrev pub is_whole : ℕ → List FrameEntry → FrameAt → Bool
 is_whole phases fs x = length (frame_moments fs x.place) == phases + 1
-
--- so it is with each of these frames
 abbrev pub are_whole : ℕ → List FrameEntry → List FrameAt → Bool
 are_whole phases fs xs = list_all (is_whole phases fs) xs
-
--- one frame more, where a dispatch runs one
-abbrev pub frames_after : List FrameAt → Option ℕ → ℕ → List FrameAt
-frames_after xs None now = xs
-frames_after xs (Some place) now = xs ++ record { place = place; now = now } ∷ []
 
 -- ---- what is asked for
 
@@ -102,14 +88,12 @@ pub data FrameAsk : Type 0 where
   -- to run a frame that starts at this moment
   Runs : (start : ℕ) → FrameAsk
 
--- what an entry of a frame record was asked for by
+-- what the entries of a frame record were asked for by, in order
 abbrev pub asked_in : FrameEntry → Option FrameAsk
 asked_in (Posted c) = Some (Posts c.phase c.due c.id c.token)
 asked_in (Removed phase id token count) = Some (Removes phase id token)
 asked_in (Begin vsync start time) = Some (Runs start)
 asked_in _ = None
-
--- what the entries were asked for by, in order
 abbrev pub asks_in : List FrameEntry → List FrameAsk
 asks_in fs = filter_map asked_in fs
 
@@ -126,22 +110,12 @@ line_asks looper l = of_command l.command
 abbrev pub asks_to_run : List FrameAt → List FrameAsk
 asks_to_run xs = map (λ x. Runs (nanos_of x.now)) xs
 
--- what is told of it in a mode: in free mode a due time and a start are left open
-abbrev pub as_told : Bool → FrameAsk → FrameAsk
-as_told lockstep (Posts phase due id token) = Posts phase (if lockstep then due else 0) id token
-as_told lockstep (Removes phase id token) = Removes phase id token
-as_told lockstep (Runs start) = Runs (if lockstep then start else 0)
-
--- an ask, and when it is made
+-- an ask, and when it is made: in the block of this time, or in a round of loopers at this time, which comes behind the block
 pub record TimedAsk : Type 0 where
   pub when : ℕ
   pub ask : FrameAsk
-
--- when it is made in the block of this time
 abbrev pub in_block : ℕ → ℕ
 in_block time = 2 * time
-
--- when it is made in a round of loopers at this time, which comes behind the block
 abbrev pub in_round : ℕ → ℕ
 in_round time = 2 * time + 1
 
@@ -149,17 +123,19 @@ in_round time = 2 * time + 1
 abbrev pub lines_ask_then : ℕ → List Timed → List TimedAsk
 lines_ask_then looper ls = filter_map (λ l. option_map (λ a. record { when = in_block l.time; ask = a }) (line_asks looper l)) ls
 
--- the millisecond at which a callback is to be due, or a frame to start
+-- what a looper asks of its own choreographer, each in a round at the time at which a callback is to be due, or a frame to start
 abbrev pub asked_for : FrameAsk → ℕ
 asked_for (Posts phase due id token) = due
 asked_for (Removes phase id token) = 0
 asked_for (Runs start) = start / 1000000
-
--- what a looper asks of its own choreographer, each in a round at the time that it is for
 abbrev pub asked_in_rounds : List FrameAsk → List TimedAsk
 asked_in_rounds asks = map (λ a. record { when = in_round (asked_for a); ask = a }) asks
 
--- what is told of it in a mode: in free mode it is left open, too, when it is made
+-- what is told of an ask in a mode: in free mode a due time and a start are left open, and when it is made
+abbrev pub as_told : Bool → FrameAsk → FrameAsk
+as_told lockstep (Posts phase due id token) = Posts phase (if lockstep then due else 0) id token
+as_told lockstep (Removes phase id token) = Removes phase id token
+as_told lockstep (Runs start) = Runs (if lockstep then start else 0)
 abbrev pub timed_as_told : Bool → TimedAsk → TimedAsk
 timed_as_told lockstep x = record { when = if lockstep then x.when else 0; ask = as_told lockstep x.ask }
 
