@@ -5,7 +5,7 @@ ghost use Rattle.loop_io.specs.Moments.{IsMoment};
 ghost use Rattle.looper_run.specs.Holding.{held, IsSameOwn};
 ghost use Rattle.looper_run.specs.Round.{is_ended};
 ghost use Rattle.run_model.specs.FrameRecords.{millis_up};
-ghost use Rattle.run_model.specs.Moments.{in_free_mode};
+ghost use Rattle.run_model.specs.ByClock.{in_free_mode};
 ghost use Rattle.dash_hall.specs.Kits.{IsHall};
 ghost use Rattle.dash_loopers.specs.Loopers.{IsLooper, IsLooperOf, round_of, is_given_up, MayWork, DrainsAt};
 ghost use Rattle.dash_loopers.specs.Places.{ServesOn, DeliversOn};

@@ -1,6 +1,7 @@
 //! A thread that runs its blocks by a clock.
 ghost use Rattle.std.specs.Prelude.{◌≡◌, true, false, IfOk, IfErr};
-ghost use Rattle.run_model.specs.Moments.{in_free_mode, IsUptime};
+ghost use Rattle.run_model.specs.Moments.{IsUptime};
+ghost use Rattle.run_model.specs.ByClock.{in_free_mode};
 ghost use Rattle.run_model.specs.Planned.{lines_in, lines_of};
 ghost use Rattle.dash_threads.specs.AtWork.{IsAtWork, StaysAtWork, RunsUnlessGivenUp};
 ghost use Rattle.dash_threads.specs.Threads.{IsThread, Takes, TakesAt, Continues, RunsAll, ThreadKeeps, HaveSeenSame, one_pass_more, HasPassed};

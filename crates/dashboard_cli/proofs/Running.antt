@@ -4,7 +4,8 @@ use Rattle.std.specs.Io.KnownBytes.{Keeps}
 use Rattle.dash_script.specs.declared.script.Script.{Script as ScriptData}
 use Rattle.dash_script.specs.Accepting.{IsText}
 use Rattle.run_model.specs.declared.report.Report.{Report}
-use Rattle.run_model.specs.Run.{IsStaged, IsStagedByClock}
+use Rattle.run_model.specs.Run.{IsStaged}
+use Rattle.run_model.specs.ByClock.{IsStagedByClock}
 use Rattle.dashboard_cli.specs.Answers.{HasInput, MakesOf}
 use Rattle.dashboard_cli.specs.Steps.{HasRun, HasRunFree}
 use Rattle.dashboard_cli.specs.Works.{limit, Known, ReadsWhole}

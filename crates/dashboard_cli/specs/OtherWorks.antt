@@ -6,18 +6,24 @@ use Rattle.dash_script.specs.declared.script.Script.{Script as ScriptData}
 use Rattle.dash_script.specs.Generated.{generated}
 use Rattle.dash_script.specs.Accepting.{IsRefusal, IsText}
 use Rattle.dash_script.specs.Text.{text as script_text}
+use Rattle.dash_script.specs.Editions.{up}
 use Rattle.trace_check.specs.Text.{IsLeastBad, IsText as IsTraceText, text as trace_text, trace_of}
 use Rattle.value_animator.specs.declared.plan.Values.{Values}
 use Rattle.value_animator.specs.Reading.{IsRefusal as IsValuesRefusal, IsText as IsValuesText}
 use Rattle.value_animator.specs.Run.{IsRunOf}
 use Rattle.run_model.specs.declared.report.Report.{Report}
+use Rattle.run_model.specs.Summary.{summary}
+use Rattle.run_model.specs.Run.{IsStaged}
 use Rattle.inbox_queue.specs.Bad.{bad_line}
 use Rattle.inbox_queue.specs.declared.run.InboxReport.{InboxReport}
-use Rattle.dashboard_cli.specs.Works.{limit, Input, Says, Writes, nothing}
+use Rattle.inbox_queue.specs.InboxRun.{IsInboxRun}
+use Rattle.dashboard_cli.specs.Works.{limit, Input, Says, Writes, nothing, only_report}
 use Rattle.dashboard_cli.specs.declared.making.Returned.{Returned}
 use Rattle.dashboard_cli.specs.declared.status.Cause.TheVariants as cause
 use Rattle.dashboard_cli.specs.declared.status.Status.{Status}
 use Rattle.dashboard_cli.specs.declared.status.Status.TheVariants.{Script, Trace}
+use Rattle.dashboard_cli.specs.InboxText.{inbox_text}
+use Rattle.dashboard_cli.specs.Verdicts.{verdict_text, IsVerdict}
 
 -- the most bytes that a trace may have
 abbrev pub trace_limit : ℕ
@@ -74,3 +80,18 @@ abbrev pub only_frames : FrameRecord → Returned
 only_frames frames = record { report = None; frames = Some frames; inbox = None }
 abbrev pub only_inbox : InboxReport → Returned
 only_inbox report = record { report = None; frames = None; inbox = Some report }
+
+-- a script is read and written as one of edition 2; the generator's script of this number is run, and the summary is written; a script is run, and the
+-- histories of its queues are written; a trace is checked; a plan of values is run over frames; a script is run through an inbox
+abbrev pub Migrates : List ℕ → List ℕ → Returned → Type 0
+Migrates = Prints IsText up
+abbrev pub Sums : ℕ → List ℕ → List ℕ → Returned → Type 0
+Sums number = Writes (IsGenerated number) IsStaged (summary number) only_report
+abbrev pub WritesHistories : List ℕ → List ℕ → Returned → Type 0
+WritesHistories = Writes IsText IsStaged histories_text only_report
+abbrev pub Checks : List ℕ → List ℕ → Returned → Type 0
+Checks = Writes IsTraceText (λ trace. IsVerdict trace.queues) verdict_text (λ verdict. nothing)
+abbrev pub Animates : List ℕ → List ℕ → Returned → Type 0
+Animates = Writes IsValuesText RunsValues (λ made. made.0) (λ made. only_frames made.1)
+abbrev pub RunsInbox : List ℕ → List ℕ → Returned → Type 0
+RunsInbox = Writes IsInboxText IsInboxRun inbox_text only_inbox

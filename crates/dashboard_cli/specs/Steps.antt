@@ -2,7 +2,8 @@
 use Rattle.std.specs.Prelude.{ℕ, List, Bool, ◌≡◌, ◌×◌, ◌+◌, ◌≤◌, length}
 use Rattle.std.specs.Io.KnownBytes.{Consumes}
 use Rattle.dash_script.specs.Accepting.{IsText}
-use Rattle.run_model.specs.Run.{IsStaged, IsStagedByClock}
+use Rattle.run_model.specs.Run.{IsStaged}
+use Rattle.run_model.specs.ByClock.{IsStagedByClock}
 use Rattle.run_model.specs.declared.report.Report.{Report}
 use Rattle.dashboard_cli.specs.Works.{limit, Known, ReadsWhole, Input, Work}
 use Rattle.dashboard_cli.specs.declared.making.Product.{Product}

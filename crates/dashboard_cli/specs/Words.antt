@@ -2,20 +2,14 @@
 use Rattle.std.specs.Prelude.{◌≡◌, ◌⊎◌, ◌^◌, ◌<◌, ℕ, List, [], ◌∷◌, codes, map, String, string_bytes, Bool, true}
 use Rattle.std.specs.declared.alloc.Global.{Global}
 use Rattle.std.specs.Fmt.{decimal}
-use Rattle.dash_script.specs.Editions.{up}
 use Rattle.dash_script.specs.Accepting.{IsText}
-use Rattle.trace_check.specs.Text.{IsText as IsTraceText}
-use Rattle.value_animator.specs.Reading.{IsText as IsValuesText}
-use Rattle.run_model.specs.Summary.{summary}
 use Rattle.run_model.specs.Text.{text as report_text}
-use Rattle.run_model.specs.Run.{IsStaged, IsStagedByClock}
-use Rattle.inbox_queue.specs.InboxRun.{IsInboxRun}
-use Rattle.dashboard_cli.specs.Works.{scripts, Input, Work, Writes, only_report, nothing}
-use Rattle.dashboard_cli.specs.OtherWorks.{inbox_scripts, plans, traces, no_input, histories_text, only_frames, only_inbox, IsGenerated, IsInboxText, Prints}
-use Rattle.dashboard_cli.specs.OtherWorks.{RunsValues}
+use Rattle.run_model.specs.Run.{IsStaged}
+use Rattle.run_model.specs.ByClock.{IsStagedByClock}
+use Rattle.dashboard_cli.specs.Works.{scripts, Input, Work, Writes, only_report}
+use Rattle.dashboard_cli.specs.OtherWorks.{inbox_scripts, plans, traces, no_input, IsGenerated, Prints, Migrates, Sums, WritesHistories, Checks, Animates}
+use Rattle.dashboard_cli.specs.OtherWorks.{RunsInbox}
 use Rattle.dashboard_cli.specs.declared.words.Command.{Command}
-use Rattle.dashboard_cli.specs.InboxText.{inbox_text}
-use Rattle.dashboard_cli.specs.Verdicts.{verdict_text, IsVerdict}
 use Rattle.dashboard_cli.specs.declared.making.Returned.{Returned}
 use Rattle.dashboard_cli.specs.declared.words.Command.TheVariants as command
 
@@ -43,12 +37,10 @@ IsInRange (command.Make number) = number < 2 ^ 32
 IsInRange (command.MakeRun number) = number < 2 ^ 32
 IsInRange command = Unit {0}
 
--- the words are this command
+-- the words are this command; and some command
 pub record IsAsked (words : List (List ℕ)) (command : Command) : Type 0 where
   pub fits : IsInRange command
   pub spelled : IsSpelled command words
-
--- the words are a spelling of some command
 abbrev pub IsListed : List (List ℕ) → Type 0
 IsListed words = (command : Command) × IsAsked words command
 
@@ -70,17 +62,16 @@ abbrev pub makes_by : (ℕ → Bool) → Command → List ℕ → List ℕ → R
 makes_by shows command.Run = Writes IsText IsStaged report_text only_report
 makes_by shows command.RunFree = Writes IsText (IsStagedByClock shows) report_text only_report
 makes_by shows command.Text = Prints IsText (λ script. script)
-makes_by shows command.Migrate = Prints IsText up
+makes_by shows command.Migrate = Migrates
 makes_by shows (command.Make number) = Prints (IsGenerated number) (λ script. script)
-makes_by shows (command.MakeRun number) = Writes (IsGenerated number) IsStaged (summary number) only_report
-makes_by shows command.Trace = Writes IsText IsStaged histories_text only_report
-makes_by shows command.Check = Writes IsTraceText (λ trace. IsVerdict trace.queues) verdict_text (λ verdict. nothing)
-makes_by shows command.Animate = Writes IsValuesText RunsValues (λ made. made.0) (λ made. only_frames made.1)
-makes_by shows command.Inbox = Writes IsInboxText IsInboxRun inbox_text only_inbox
+makes_by shows (command.MakeRun number) = Sums number
+makes_by shows command.Trace = WritesHistories
+makes_by shows command.Check = Checks
+makes_by shows command.Animate = Animates
+makes_by shows command.Inbox = RunsInbox
 
--- what this command does
+-- what this command does; and one that reads no clock
 abbrev pub work_by : (ℕ → Bool) → Command → Work
 work_by shows c = record { reads = reads_of c; Makes = makes_by shows c }
--- the same of a command that reads no clock
 abbrev pub work : Command → Work
 work c = work_by (λ reading. true) c

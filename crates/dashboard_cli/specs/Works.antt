@@ -8,15 +8,9 @@ use Rattle.dashboard_cli.specs.declared.status.Cause.TheVariants as cause
 use Rattle.dashboard_cli.specs.declared.status.Status.{Status}
 use Rattle.dashboard_cli.specs.declared.status.Status.TheVariants.{Script}
 
--- the most bytes that a script or a plan may have
-abbrev pub limit : ℕ
-limit = 1048576
-
--- the bytes that a source has left, or that a sink holds, where it tells them
+-- the bytes that a source has left, or that a sink holds, where it tells them; and this input was read to its end, and it is no longer than the limit
 abbrev pub Known : Type 0
 Known = Option (List ℕ)
-
--- this input was read to its end, and it is no longer than the limit
 pub record ReadsWhole (most : ℕ) (before after : Known) (input : List ℕ) : Type 0 where
   pub consumed : Consumes before after input
   pub ended : IsAtEnd after
@@ -35,11 +29,12 @@ pub record Input : Type 1 where
 abbrev pub Says : {X : Type 0} → (List ℕ → X → Type 0) → List ℕ → Type 0
 Says {X} Text input = (x : X) × Text input x
 
--- the status names the least bad line of what should be a script, and its first cause
+-- a script: the status names the least bad line of what should be one, and its first cause; a script or a plan may have so many bytes
+abbrev pub limit : ℕ
+limit = 1048576
 abbrev pub RefusesScript : List ℕ → Status → Type 0
 RefusesScript input (Script line (cause.Text why)) = IsRefusal input line why
 RefusesScript input status = ⊥
-
 abbrev pub scripts : Input
 scripts = record { most = Some limit; Takes = Says IsText; Refuses = RefusesScript }
 

@@ -7,7 +7,8 @@ ghost use Rattle.dashboard_cli.specs.Works.{scripts};
 ghost use Rattle.dashboard_cli.specs.OtherWorks.{inbox_scripts, plans, traces, IsInboxText};
 ghost use Rattle.dashboard_cli.specs.Words.{work, work_by};
 ghost use Rattle.inbox_queue.specs.InboxRun.{IsInboxRun};
-ghost use Rattle.run_model.specs.Run.{IsStaged, IsStagedByClock};
+ghost use Rattle.run_model.specs.Run.{IsStaged};
+ghost use Rattle.run_model.specs.ByClock.{IsStagedByClock};
 ghost use Rattle.value_animator.specs.Plans.{AreValues};
 ghost use Rattle.value_animator.specs.Run.{IsRunOf};
 

@@ -17,7 +17,8 @@ use Rattle.loop_model.specs.declared.journal.Journal.{Journal}
 use Rattle.loop_model.specs.declared.record.QueueRecord.{QueueRecord}
 use Rattle.run_model.specs.declared.report.Report.{Report}
 use Rattle.run_model.specs.Control.{is_controlled, are_before_quit}
-use Rattle.run_model.specs.Moments.{Mode, in_free_mode, AreOfClock}
+use Rattle.run_model.specs.Moments.{Mode, AreOfClock}
+use Rattle.run_model.specs.ByClock.{in_free_mode}
 use Rattle.run_model.specs.Planned.{AreAsPlanned}
 use Rattle.run_model.specs.Loopers.{asked_then, after_act, first_looper}
 use Rattle.run_model.specs.FrameRecords.{timed_as_told}

@@ -6,5 +6,6 @@ pub mod AskedSoFar
 pub mod Control
 pub mod Loopers
 pub mod Run
+pub mod ByClock
 pub mod Text
 pub mod Summary

@@ -14,11 +14,9 @@ pub record Mode : Type 0 where
   -- its reading at the start
   pub start : ℕ
 
--- in lockstep no clock is read; in free mode it shows such numbers
+-- in lockstep no clock is read
 abbrev pub in_lockstep : Mode
 in_lockstep = record { lockstep = true; shows = λ reading. true; start = 0 }
-abbrev pub in_free_mode : (ℕ → Bool) → ℕ → Mode
-in_free_mode shows start = record { lockstep = false; shows = shows; start = start }
 
 -- this is so in lockstep; and in free mode
 abbrev pub IfLockstep : Mode → Type 0 → Type 0

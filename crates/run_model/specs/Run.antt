@@ -17,7 +17,7 @@ use Rattle.dash_script.specs.declared.script.Script.{Script}
 use Rattle.dash_script.specs.Causes.{phase_count}
 use Rattle.run_model.specs.declared.report.Report.{Report}
 use Rattle.run_model.specs.Senders.{history_of, AreFor, entries_by, looper_sender, controller, sender_count}
-use Rattle.run_model.specs.Moments.{Mode, IfLockstep, IsStart, AreOfClock, in_lockstep, in_free_mode}
+use Rattle.run_model.specs.Moments.{Mode, IfLockstep, IsStart, AreOfClock, in_lockstep}
 use Rattle.run_model.specs.Planned.{lines_of, labels_on, lines_on, times_on, AreAsPlanned}
 use Rattle.run_model.specs.Control.{is_controlled, ends_halted, is_called_in_time, are_before_quit, befores, InBlock, are_on_time, each_behind, moves}
 use Rattle.run_model.specs.Control.{AreMovedTogether, AreBlocksFirst, AreBlocksReached}
@@ -52,34 +52,24 @@ pub record AreRecordsOf (m : Mode) (test : Entry → Bool) (s : Script) (r : Rep
   pub start : IsStart m
   pub histories : AllByRecursion (IsRecordOf m test s) r.queues
 
--- each thread's entries on the queue are as its lines plan them
+-- part 2 of a run: each thread's entries on each queue are as its lines plan them
 abbrev pub IsAsPlanned : Mode → Script → QueueRecord → Type 0
 IsAsPlanned m s r = (thread : ℕ) → thread < s.threads → AreAsPlanned m s thread r.looper (history_of r)
-
--- part 2 of a run: the threads' calls
 abbrev pub ArePlannedOf : Mode → Script → Report → Type 0
 ArePlannedOf m s r = AllByRecursion (IsAsPlanned m s) r.queues
 
--- the controller's entries on the queue are its own, and the queue is disposed of once unless it is main
+-- part 3 of a run: the controller's entries on each queue are its own, and the queue is disposed of once unless it is main
 abbrev pub IsControlled : Script → QueueRecord → Type 0
 IsControlled s r = is_controlled r.main r.lockstep (controller s) s.end (history_of r) ≡ true
-
--- part 3 of a run: the controller's calls
 abbrev pub AreControlsOf : Script → Report → Type 0
 AreControlsOf s r = AllByRecursion (IsControlled s) r.queues
 
--- all entries pass
-abbrev pub all_entries : Entry → Bool
-all_entries e = true
-
--- a choreographer's record has the script's period and phases, and is lawful, and each of its frames has the stamp of a pulse, or 0
+-- part 4 of a run: each choreographer's record has the script's period and phases, and is lawful, and each of its frames has the stamp of a pulse, or 0
 pub record IsFrameRun (s : Script) (f : FrameRecord) : Type 0 where
   pub interval : f.interval ≡ s.period
   pub phases : f.phases ≡ phase_count s.edition
   pub lawful : lawful f.interval f.phases f.entries ≡ true
   pub stamps : are_stamped f.interval f.entries ≡ true
-
--- part 4 of a run: the choreographers' records
 abbrev pub AreFramesOf : Script → Report → Type 0
 AreFramesOf s r = AllByRecursion (IsFrameRun s) r.frames
 
@@ -104,13 +94,11 @@ pub record IsLooperRun (m : Mode) (s : Script) (queues : List QueueRecord) (q : 
       are_on_time (map (λ x. x.timing) (caused_on r.looper final q.looper disposed_at)) (befores (looper_sender s q.looper) (history_of r)) ≡ true) queues)
   pub moments : IfLockstep m (are_run_then f.entries final.frames ≡ true)
 
--- each looper's queue, journal and frame record, and no others
+-- part 5 of a run: the loopers' calls, journals and frame records, each with its looper's queue, and no others
 abbrev pub EachLooper : (QueueRecord → Journal → FrameRecord → Type 0) → List QueueRecord → List Journal → List FrameRecord → Type 0
 EachLooper P [] [] [] = Unit {0}
 EachLooper P (q ∷ qs) (j ∷ js) (f ∷ fs) = P q j f × EachLooper P qs js fs
 EachLooper P _ _ _ = ⊥
-
--- part 5 of a run: the loopers' calls, journals and frame records, and that in lockstep what a dispatch caused came at its time, or behind its queue's disposal
 abbrev pub AreLoopersOf : Mode → Script → Report → Type 0
 AreLoopersOf m s r = EachLooper (IsLooperRun m s r.queues) r.queues r.journals r.frames
 
@@ -120,24 +108,16 @@ IsThreadOnTime s r thread =
     are_on_time (map (λ l. InBlock l.time) (lines_on s (labels_on r.looper (lines_of thread s.blocks)) r.looper (lines_of thread s.blocks)))
     (befores thread (history_of r)) ≡ true
 
--- a thread has made its calls on the queue for all blocks before this time
+-- the threads' calls on the queue come in the order of their blocks: each where all threads have made their calls there for earlier blocks
 abbrev pub has_called_before : Script → ℕ → ℕ → List Entry → ℕ → Bool
 has_called_before s q time past thread = nat_le (count_by (λ t. nat_lt t time) (times_on s q thread)) (length (entries_by thread past))
-
--- no thread's entry, or one of a planned call before which all threads have made their calls for earlier blocks
 abbrev pub comes_in_order : Script → ℕ → List Entry → Entry → Bool
 comes_in_order s q past e =
     not (nat_lt e.sender s.threads)
     || option_map_or (λ time. list_all (has_called_before s q time past) (range_with_len 0 s.threads))
     (slice_get (times_on s q e.sender) (length (entries_by e.sender past))) false
-
--- the threads' calls on the queue come in the order of their blocks
 unfoldable pub are_in_order : Script → ℕ → List Entry → Bool
 are_in_order s q es = each_behind (comes_in_order s q) [] es
-
--- each call of a thread on the queue comes before the controller's quit
-abbrev pub IsBeforeQuit : Script → QueueRecord → Type 0
-IsBeforeQuit s r = are_before_quit s.threads (controller s) (history_of r) ≡ true
 
 -- the controller's calls are in time, and the threads' calls are on time and come in the order of their blocks
 pub record IsTimely (s : Script) (r : QueueRecord) : Type 0 where
@@ -145,20 +125,22 @@ pub record IsTimely (s : Script) (r : QueueRecord) : Type 0 where
   pub threads : (thread : ℕ) → thread < s.threads → IsThreadOnTime s r thread
   pub in_order : are_in_order s r.looper (history_of r) ≡ true
 
--- main's history ends with its Halt
+-- part 6 of a run: main ends with its Halt, the threads' calls come before the controller's quits, and in lockstep each history is timely and all queues' times
+-- are moved together, to times at which something may come
 abbrev pub main_ends_halted : List QueueRecord → Bool
 main_ends_halted [] = false
 main_ends_halted (q ∷ qs) = ends_halted (history_of q)
-
--- part 6 of a run: main ends with its Halt, the threads' calls come before the controller's quits, and in lockstep each history is timely and all queues'
--- times are moved together, to times at which something may come
+abbrev pub IsBeforeQuit : Script → QueueRecord → Type 0
+IsBeforeQuit s r = are_before_quit s.threads (controller s) (history_of r) ≡ true
 pub record AreTimelyOf (m : Mode) (s : Script) (r : Report) : Type 0 where
   pub halted : main_ends_halted r.queues ≡ true
   pub before_quit : AllByRecursion (IsBeforeQuit s) r.queues
   pub histories : IfLockstep m (AllByRecursion (IsTimely s) r.queues)
   pub moves : IfLockstep m (AreMovedTogether s (map (λ q. moves (controller s) (history_of q)) r.queues))
 
--- the report is a run of the script; each part can be claimed by itself
+-- the report is a run of the script; each part can be claimed by itself, and the first one of the entries that pass a test: here all pass
+abbrev pub all_entries : Entry → Bool
+all_entries e = true
 pub record IsRun (m : Mode) (s : Script) (r : Report) : Type 0 where
   pub report : IsReportOf s r
   pub records : AreRecordsOf m all_entries s r
@@ -168,21 +150,8 @@ pub record IsRun (m : Mode) (s : Script) (r : Report) : Type 0 where
   pub loopers : AreLoopersOf m s r
   pub timely : AreTimelyOf m s r
 
--- the report is a run of the script in lockstep: the history of each looper's queue is one that a queue of one thread has, each thread's calls there are those
--- that its lines plan, one for one and in order, each looper's are those that the acts in its journal cause, the controller's move all queues' times on
--- together, to times at which something may come and no further than the end, and close the queue there, each frame history is lawful and has the posts, the
--- removals and the frames that the threads' lines and the looper's acts ask for, each as often, each of these frames takes all phases, and each call comes at
--- its time; and on each queue each thread's call comes where only threads have called since the queue's time was last moved, or behind its disposal; and main's
--- time was moved to the time of each block, but for one at the start
+-- the report is a run of the script in lockstep, and on each queue the threads' calls come first at the time of their block, and main comes to each block
 pub record IsStaged (s : Script) (r : Report) : Type 0 where
   pub run : IsRun in_lockstep s r
   pub blocks : AreBlocksFirst s r.queues
   pub reached : AreBlocksReached s r.queues
-
--- the report is a run of the script by a clock that shows such numbers: the history of each looper's queue is one that a queue of one thread has, at moments of
--- the clock or of the queue, each thread's calls there are those that its lines plan, one for one and in order, no due time, barrier or quit of them counted
--- from before its block, each looper's are those that the acts in its journal cause, the controller's close the queue at the end or later, behind the threads'
--- calls, main ends with its halt, and each frame history is lawful and has the posts, the removals and the frames that the threads' lines and the looper's acts
--- ask for, each as often, and each of these frames takes all phases
-pub record IsStagedByClock (shows : ℕ → Bool) (s : Script) (r : Report) : Type 0 where
-  pub run : IsRun (in_free_mode shows r.start) s r
