@@ -36,11 +36,10 @@ is_safe_quit (Quit safe now) = safe
 is_safe_quit _ = false
 
 -- the last call, in lockstep at the end, and in free mode no earlier: on main a Halt that is answered Halted, and elsewhere a safe quit
-abbrev pub is_at_end : Bool → ℕ → ℕ → Bool
-is_at_end lockstep end now = if lockstep then now == end else nat_le end now
 abbrev pub is_closing : Bool → Bool → ℕ → Entry → Bool
 is_closing main lockstep end e =
-    (if main then is_halt e.call && is_halted e.reply else is_safe_quit e.call) && is_at_end lockstep end (moment_of e.call)
+    (if main then is_halt e.call && is_halted e.reply else is_safe_quit e.call)
+    && (if lockstep then moment_of e.call == end else nat_le end (moment_of e.call))
 
 -- the controller's entries are Advances up to the end in lockstep, and then the last call; elsewhere than on main it is left out only where another sender quit
 -- the queue. That each Advance is later than the clock before it is said by its reply

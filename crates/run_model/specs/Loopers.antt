@@ -153,21 +153,16 @@ abbrev pub running : Option ℕ → ℕ → Looper → Looper
 running frame now a = record a { painted = []; place = place_after a.place frame; frames = frames_after a.frames frame now }
 abbrev pub dispatched : Script → ℕ → List FrameEntry → Option ℕ → ℕ → ℕ → Looper → Option PostData → Looper
 dispatched s q fs frame n now a None = a
-dispatched s q fs frame n now a (Some m) =
-    delivered s q now (frame_ids fs frame) m (and_takes q n now (and_starts q m (running frame now a)))
+dispatched s q fs frame n now a (Some m) = delivered s q now (frame_ids fs frame) m (and_takes q n now (and_starts q m (running frame now a)))
 
 -- what looper q has come to after an act, by its queue's history and its frame record; a dispatch runs the frame that
 -- begins at this place, or none
 unfoldable pub after_act : Script → ℕ → List Entry → List FrameEntry → Option ℕ → Looper → Act → Looper
-after_act s q es fs frame a (Dispatch n now route) =
-    record (dispatched s q fs frame n now a (post_at es n)) { painted = [] }
-after_act s q es fs frame a (Vsync stamp) =
-    record a {
-      sent = a.sent
-          ++ record { queue = q; ask = Makes (Post (frame_message q 0 0 (stamp / 1000000))); reply = None; timing = NotBefore (millis_up stamp) } ∷ [];
-      stamp = stamp;
-      awaits = true;
-    }
+after_act s q es fs frame a (Dispatch n now route) = record (dispatched s q fs frame n now a (post_at es n)) { painted = [] }
+after_act s q es fs frame a (Vsync stamp) = record a {
+  sent = a.sent ++ record { queue = q; ask = Makes (Post (frame_message q 0 0 (stamp / 1000000))); reply = None; timing = NotBefore (millis_up stamp) } ∷ [];
+  stamp = stamp; awaits = true;
+}
 after_act s q es fs frame a (Paint g v) = record a { painted = a.painted ++ Paint g v ∷ [] }
 after_act s q es fs frame a (Idle i k) = a
 after_act s q es fs frame a (Event f e m) = a
@@ -205,8 +200,7 @@ Lead s q es fs a (x ∷ xs) b = (frame : Option ℕ) × (MayCome s q es fs frame
 abbrev pub sent_on : ℕ → List Sent → List Sent
 sent_on q xs = filter (λ x. x.queue == q) xs
 abbrev pub closing : ℕ → ℕ → List Sent
-closing q now =
-    if q == 0 then [] else record { queue = q; ask = Makes (Next now); reply = Some Disposed; timing = NotBefore 0 } ∷ []
+closing q now = if q == 0 then [] else record { queue = q; ask = Makes (Next now); reply = Some Disposed; timing = NotBefore 0 } ∷ []
 
 -- the entry makes the call, with the reply where that is told
 pub record IsSent (tokens : List ℕ) (x : Sent) (e : Entry) : Type 0 where

@@ -24,19 +24,16 @@ use Rattle.frame_phases.specs.declared.entry.FrameRecord.{FrameRecord}
 use Rattle.run_model.specs.declared.report.Report.{Report}
 use Rattle.run_model.specs.Senders.{history_of}
 
--- a message's handler, and its number or its callback; a dispatch of a message; and a message that was refused
+-- a message's handler, and its number or its callback; and a dispatch of a message
 abbrev pub subject : PostData → Words
 subject p = decimal p.handler ∷ option_map_or (λ c. codes "callback" ∷ decimal c ∷ []) p.callback (decimal p.what ∷ [])
 abbrev pub dispatch_words : ℕ → ℕ → PostData → Words
 dispatch_words now n p = decimal now ∷ codes "dispatch" ∷ decimal n ∷ subject p
-abbrev pub refused_words : PostData → ℕ → Words
-refused_words p place = (codes "refused" ∷ subject p) ++ codes "quit" ∷ decimal place ∷ []
 
 -- the lines of a history: each entry has none or one, by the accepted posts
 abbrev pub call_lines : List PostData → Call → Reply → List Words
-call_lines posts (Next now) (Dispatched n) =
-    option_map_or (λ p. dispatch_words now n p ∷ []) (slice_get posts n) []
-call_lines posts (Post p) (Refused place) = refused_words p place ∷ []
+call_lines posts (Next now) (Dispatched n) = option_map_or (λ p. dispatch_words now n p ∷ []) (slice_get posts n) []
+call_lines posts (Post p) (Refused place) = ((codes "refused" ∷ subject p) ++ codes "quit" ∷ decimal place ∷ []) ∷ []
 call_lines posts (Unbarrier token) NotPosted = (codes "not-posted" ∷ decimal token ∷ []) ∷ []
 call_lines posts (Quit safe now) NotAllowed = (codes "not-allowed" ∷ []) ∷ []
 call_lines posts (Quit safe now) (AlreadyQuit place) = (codes "already-quit" ∷ decimal place ∷ []) ∷ []
@@ -62,11 +59,9 @@ act_lines _ = []
 abbrev pub posted_callback : FrameEntry → Option Callback
 posted_callback (Posted c) = Some c
 posted_callback _ = None
-abbrev pub run_words : Callback → Words
-run_words c = codes "run" ∷ decimal c.phase ∷ decimal c.id ∷ []
 abbrev pub frame_entry_lines : List Callback → FrameEntry → List Words
 frame_entry_lines cs (Begin vsync start time) = (codes "frame" ∷ decimal time ∷ []) ∷ []
-frame_entry_lines cs (Ran n) = option_map_or (λ c. run_words c ∷ []) (slice_get cs n) []
+frame_entry_lines cs (Ran n) = option_map_or (λ c. (codes "run" ∷ decimal c.phase ∷ decimal c.id ∷ []) ∷ []) (slice_get cs n) []
 frame_entry_lines cs _ = []
 abbrev pub frame_lines : List FrameEntry → List Words
 frame_lines fs = flat_map (frame_entry_lines (filter_map posted_callback fs)) fs
