@@ -18,7 +18,8 @@ use Rattle.dash_loopers.specs.declared.player.Parts.{Parts}
 use Rattle.dash_loopers.specs.declared.player.Place.{Place}
 use Rattle.dash_loopers.specs.declared.view_root.ViewRoot.{ViewRoot}
 use Rattle.dash_loopers.specs.Players.{ServesAt}
-use Rattle.dash_loopers.specs.Played.{calls_of, ids_of, standing, fixed, fixed_by, paint_of, RanFrame, EndsLatest, Shows, Plays, Delivers, DeliversPulse, Pulses}
+use Rattle.dash_loopers.specs.Played.{calls_of, ids_of, standing, fixed, fixed_by, paint_of, RanFrame, EndsLatest, Shows, Plays, Delivers, DeliversPulse}
+use Rattle.dash_loopers.specs.Played.{Pulses}
 use Rattle.choreographer.specs.declared.frame.Framed.{Framed}
 use Rattle.choreographer.specs.declared.frame.Framed.TheVariants as framed
 

@@ -19,7 +19,8 @@ use Rattle.run_model.proofs.RunLaws.{Lead-snoc}
 use Rattle.run_model.proofs.Growth.{Lead-entries}
 use Rattle.dash_loopers.specs.declared.player.Parts.{Parts}
 use Rattle.dash_loopers.specs.declared.looper.StageLooper.{StageLooper}
-use Rattle.dash_loopers.specs.Played.{is_disposal, calls_in, IsPlayed, StandsBy, Stands, IsTimedBy, HasLooked, IsPostedBy, GoesOnTo, ComesTo, IsPlaying, IsPlayingBy}
+use Rattle.dash_loopers.specs.Played.{is_disposal, calls_in, IsPlayed, StandsBy, Stands, IsTimedBy, HasLooked, IsPostedBy, GoesOnTo, ComesTo, IsPlaying}
+use Rattle.dash_loopers.specs.Played.{IsPlayingBy}
 
 -- ---- the calls of a sender, as entries are added
 

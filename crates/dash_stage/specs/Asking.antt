@@ -13,8 +13,8 @@ use Rattle.dash_stage.specs.declared.stage.Stage.{Stage}
 use Rattle.dash_stage.specs.Sharing.{HaveHeardTheSame}
 use Rattle.dash_stage.specs.Timeliness.{AreSound}
 
--- what the threads and looper q have heard of its choreographer was asked for in turn, up to this block or these rounds: by the threads for their lines of these
--- blocks, and by the looper in rounds
+-- what the threads and looper q have heard of its choreographer was asked for in turn, up to this block or these rounds: by the threads for their lines of
+-- these blocks, and by the looper in rounds
 pub record IsAskedInTurn (s : Script) (past : List Block) (last q : ℕ) (st : Stage) : Type 0 where
   pub made : List (ℕ × FrameEntry)
   pub threads : (k : ℕ) (d : PostingThread) → k < length st.threads.items → HaveHeardAllAt q made (slice_index_or st.threads.items k d).kit.frames.items
