@@ -18,7 +18,8 @@ use Rattle.looper_run.specs.Round.{UnlessWanting}
 use Rattle.looper_run.specs.Tests.{Passes, IsSameLooper}
 use Rattle.choreographer.specs.Known.{Known as Pass}
 use Rattle.run_model.specs.Senders.{entries_by, AreFor}
-use Rattle.run_model.specs.Loopers.{Looper, first_looper, Lead, sent_on, IsSent}
+use Rattle.run_model.specs.Loopers.{Looper, first_looper, Lead, IsSent}
+use Rattle.run_model.specs.Parts.{sent_on}
 use Rattle.dash_hall.specs.declared.hall.Hall.{Hall}
 use Rattle.dash_hall.specs.declared.kit.Kit.{Kit}
 use Rattle.dash_hall.specs.Kits.{IsHall, AreUnseen}

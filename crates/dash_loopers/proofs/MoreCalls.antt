@@ -13,7 +13,8 @@ use Rattle.looper_run.specs.Holding.{Sender}
 use Rattle.run_model.specs.Senders.{Makes as Asks, AreFor, plain, token_in}
 use Rattle.run_model.specs.AskedSoFar.{tokens_in}
 use Rattle.run_model.specs.Control.{Timing}
-use Rattle.run_model.specs.Loopers.{Looper, Sent, sent_on, IsSent}
+use Rattle.run_model.specs.Loopers.{Looper, Sent, IsSent}
+use Rattle.run_model.specs.Parts.{sent_on}
 use Rattle.run_model.proofs.RunLaws.{AreFor-snoc, sent_on-append}
 use Rattle.dash_hall.specs.Growth.{own, Makes}
 use Rattle.dash_loopers.specs.declared.player.Parts.{Parts}

@@ -12,7 +12,8 @@ use Rattle.run_model.specs.Planned.{frame_due}
 use Rattle.run_model.specs.Control.{At}
 use Rattle.run_model.specs.FrameRecords.{Posts, as_told, place_after, frames_after}
 use Rattle.run_model.specs.Loopers.{Looper, Gauge, and_sends, and_posts_frame, with_gauge, traversal_requested, target_set, object_set, moved, gauge_moved}
-use Rattle.run_model.specs.Loopers.{animation_ran, paints, traversal_ran, callback_ran, fires, reaction, reacted, delivered, and_takes, and_starts, running}
+use Rattle.run_model.specs.Loopers.{paints, traversal_ran, callback_ran, fires, reaction, reacted, delivered, and_takes}
+use Rattle.run_model.specs.Parts.{animation_ran, and_starts, running}
 use Rattle.dash_loopers.specs.Played.{untimed, unstarted, AreAlike, pulsed}
 
 pub alike_self : (a : Looper) → AreAlike a a

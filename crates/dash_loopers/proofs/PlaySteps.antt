@@ -32,7 +32,8 @@ use Rattle.run_model.specs.AskedSoFar.{tokens_in}
 use Rattle.run_model.specs.Control.{At, NotBefore}
 use Rattle.run_model.specs.Planned.{frame_message}
 use Rattle.run_model.specs.Loopers.{Looper, Gauge, Sent, and_sends, and_posts_frame, with_gauge, moved, paints, starts_frame, delivered, reacted, object_set}
-use Rattle.run_model.specs.Loopers.{target_set, traversal_requested, traversal_ran, animation_ran, gauge_moved, callback_ran, sent_on, IsSent}
+use Rattle.run_model.specs.Loopers.{target_set, traversal_requested, traversal_ran, gauge_moved, callback_ran, IsSent}
+use Rattle.run_model.specs.Parts.{animation_ran, sent_on}
 use Rattle.run_model.specs.FrameRecords.{millis_up, nanos_of, place_after, asks_in}
 use Rattle.dash_hall.specs.Growth.{own, GoesOn, Makes}
 use Rattle.dash_hall.specs.Hosts.{HostOrigin, IsHost, sends_by, asks_of}

@@ -21,7 +21,8 @@ use Rattle.run_model.specs.Senders.{Makes as Asks, AreFor, plain, looper_of, han
 use Rattle.run_model.specs.AskedSoFar.{tokens_in}
 use Rattle.run_model.specs.Control.{Timing, At}
 use Rattle.loop_model.specs.Posts.{moment_after}
-use Rattle.run_model.specs.Loopers.{Looper, Sent, fires, reaction, reacted, sent_on, IsSent}
+use Rattle.run_model.specs.Loopers.{Looper, Sent, fires, reaction, reacted, IsSent}
+use Rattle.run_model.specs.Parts.{sent_on}
 use Rattle.run_model.proofs.RunLaws.{AreFor-snoc}
 use Rattle.dash_hall.specs.declared.handlers.Request.{Request}
 use Rattle.dash_hall.specs.declared.handlers.Request.TheVariants as request

@@ -21,7 +21,8 @@ use Rattle.run_model.specs.Senders.{traversal_id, traversal_phase}
 use Rattle.run_model.specs.AskedSoFar.{tokens_in}
 use Rattle.run_model.specs.Control.{At}
 use Rattle.run_model.specs.Loopers.{Looper, Gauge, Sent, and_sends, and_posts_frame, with_gauge, traversal_requested, target_set, object_set, gauge_moved}
-use Rattle.run_model.specs.Loopers.{animation_ran, moved, paints, traversal_ran, callback_ran, sent_on, IsSent}
+use Rattle.run_model.specs.Loopers.{moved, paints, traversal_ran, callback_ran, IsSent}
+use Rattle.run_model.specs.Parts.{animation_ran, sent_on}
 use Rattle.run_model.proofs.RunLaws.{AreFor-snoc}
 use Rattle.message_pool.specs.Passes.{Tally}
 use Rattle.dash_hall.specs.Growth.{Makes, GoesOn}

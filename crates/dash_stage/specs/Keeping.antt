@@ -8,7 +8,8 @@ use Rattle.dash_script.specs.declared.script.Script.{Script}
 use Rattle.run_model.specs.Senders.{history_of, controller}
 use Rattle.run_model.specs.Moments.{Mode, in_lockstep}
 use Rattle.run_model.specs.Control.{moves, AreMovedTogether, AreBlocksFirst, AreBlocksReached}
-use Rattle.run_model.specs.Run.{IsAsPlanned, IsControlled, IsFrameRun, IsBeforeQuit, IsTimely, main_ends_halted}
+use Rattle.run_model.specs.Run.{IsAsPlanned, IsControlled, IsFrameRun, IsTimely, main_ends_halted}
+use Rattle.run_model.specs.Parts.{IsBeforeQuit}
 use Rattle.loop_model.specs.declared.entry.Entry.{Entry}
 use Rattle.dash_hall.specs.declared.hall.Hall.{Hall}
 use Rattle.dash_hall.specs.declared.kit.Kit.{Kit}

@@ -9,7 +9,8 @@ use Rattle.looper_run.specs.Holding.{Sender}
 use Rattle.looper_run.specs.Round.{is_ended}
 use Rattle.run_model.specs.Senders.{looper_sender, sender_count}
 use Rattle.run_model.specs.Control.{Before, befores, befores_from, Timing, At, InBlock, NotBefore, are_on_time, come_first}
-use Rattle.run_model.specs.Loopers.{Looper, first_looper, sent_on}
+use Rattle.run_model.specs.Loopers.{Looper, first_looper}
+use Rattle.run_model.specs.Parts.{sent_on}
 use Rattle.dash_loopers.specs.declared.looper.StageLooper.{StageLooper}
 use Rattle.dash_loopers.specs.Loopers.{HasRun}
 use Rattle.dash_loopers.specs.Played.{is_disposal, HasCome, HasPlayed, HasComeBy}

@@ -10,7 +10,8 @@ use Rattle.looper_run.specs.Holding.{Sender}
 use Rattle.run_model.specs.Senders.{plain, call_of}
 use Rattle.run_model.specs.AskedSoFar.{tokens_in}
 use Rattle.run_model.specs.Moments.{Mode, IfFree, IsUptime, IsMoment}
-use Rattle.run_model.specs.Planned.{Timed, planned, lines_on, MakeCalls, IsNoEarlier}
+use Rattle.run_model.specs.Planned.{Timed, planned, lines_on, IsNoEarlier}
+use Rattle.run_model.specs.Parts.{MakeCalls}
 use Rattle.run_model.proofs.RunLaws.{MakeCalls-line, MakeCalls-skip}
 use Rattle.dash_hall.specs.declared.calls.QueueCall.{QueueCall}
 use Rattle.dash_hall.proofs.Clocking.{if_free}

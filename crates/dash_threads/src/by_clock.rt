@@ -2,7 +2,8 @@
 ghost use Rattle.std.specs.Prelude.{◌≡◌, true, false, IfOk, IfErr};
 ghost use Rattle.run_model.specs.Moments.{IsUptime};
 ghost use Rattle.run_model.specs.ByClock.{in_free_mode};
-ghost use Rattle.run_model.specs.Planned.{lines_in, lines_of};
+ghost use Rattle.run_model.specs.Planned.{lines_of};
+ghost use Rattle.run_model.specs.Parts.{lines_in};
 ghost use Rattle.dash_threads.specs.AtWork.{IsAtWork, StaysAtWork, RunsUnlessGivenUp};
 ghost use Rattle.dash_threads.specs.Threads.{IsThread, Takes, TakesAt, Continues, RunsAll, ThreadKeeps, HaveSeenSame, one_pass_more, HasPassed};
 ghost use Rattle.dash_threads.specs.Threads.{rungs_of, one_more, more_for, looper_woken};

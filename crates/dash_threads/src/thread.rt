@@ -5,7 +5,7 @@ ghost use Rattle.dash_script.specs.declared.script.Command.TheVariants.{Frame, U
 ghost use Rattle.shared_queue.specs.Known.{IsOf};
 ghost use Rattle.choreographer.specs.Known.{IsOf as IsFrameOf};
 ghost use Rattle.run_model.specs.Moments.{Mode, in_lockstep};
-ghost use Rattle.run_model.specs.Planned.{lines_in};
+ghost use Rattle.run_model.specs.Parts.{lines_in};
 ghost use Rattle.dash_hall.specs.Growth.{GoesOn};
 ghost use Rattle.dash_hall.specs.Kits.{IsUnusedKit, frame_badge_of};
 ghost use Rattle.dash_hall.specs.Hosts.{PostsFrame};

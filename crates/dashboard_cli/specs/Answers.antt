@@ -19,6 +19,7 @@ pub record IsOf (words : List (List ℕ)) (P : Command → Type 0) : Type 0 wher
   pub command : Command
   pub asked : IsAsked words command
   pub holds : P command
+
 abbrev pub AllOf : List (List ℕ) → (Command → Type 0) → Type 0
 AllOf words P = (command : Command) → IsAsked words command → P command
 
@@ -26,6 +27,7 @@ AllOf words P = (command : Command) → IsAsked words command → P command
 abbrev pub HasInput : Option ℕ → Known → Known → List ℕ → Type 0
 HasInput (Some most) before after input = ReadsWhole most before after input
 HasInput None before after input = Keeps before after × (input ≡ [])
+
 pub record MakesOf (work : Work) (before after : Known) (out : List ℕ) (given : Returned) : Type 0 where
   pub input : List ℕ
   pub read : HasInput work.reads.most before after input
@@ -41,6 +43,7 @@ pub record IsWritten (Grows : Known → Known → List ℕ → Type 0) (work : W
 abbrev pub WritesWholeAtOk : (ℕ → Bool) → List (List ℕ) → Known → Known → Known → Known → Outcome → Type 0
 WritesWholeAtOk shows words before after held holds outcome =
     outcome.status ≡ Ok → IsOf words (λ command. IsWritten Appends (work_by shows command) before after held holds (returned outcome))
+
 abbrev pub WritesFrontAtFault : (ℕ → Bool) → List (List ℕ) → Known → Known → Known → Known → Outcome → Type 0
 WritesFrontAtFault shows words before after held holds outcome =
     outcome.status ≡ WriteFault → IsOf words (λ command. IsWritten AppendsFront (work_by shows command) before after held holds (returned outcome))
@@ -56,6 +59,7 @@ pub record IsRefused (wanted : Input) (before after : Known) (status : Status) :
 abbrev pub IsTooLong : Option ℕ → Known → Known → Type 0
 IsTooLong (Some most) before after = (input : List ℕ) × Consumes before after input × (length input ≡ most + 1)
 IsTooLong None before after = ⊥
+
 abbrev pub IsWithin : Option ℕ → Known → Known → Type 0
 IsWithin (Some most) before after = (input : List ℕ) × Consumes before after input × (length input ≤ most)
 IsWithin None before after = Keeps before after
@@ -64,6 +68,7 @@ IsWithin None before after = Keeps before after
 abbrev pub IsTold : Option ℕ → Known → List ℕ → Type 0
 IsTold (Some most) before input = (before ≡ Some input) × (length input ≤ most)
 IsTold None before input = input ≡ []
+
 pub record HasGoodInput (wanted : Input) (before : Known) : Type 0 where
   pub input : List ℕ
   pub told : IsTold wanted.most before input
@@ -79,6 +84,7 @@ abbrev pub writes_nothing : Status → Bool
 writes_nothing Ok = false
 writes_nothing WriteFault = false
 writes_nothing status = true
+
 abbrev pub is_refusal : Status → Bool
 is_refusal (Script line cause) = true
 is_refusal (Trace line) = true
@@ -88,6 +94,7 @@ is_refusal status = false
 abbrev pub CountsReads : Status → ℕ → ℕ → Type 0
 CountsReads ReadFault before now = now ≡ one_more before
 CountsReads status before now = now ≡ before
+
 abbrev pub CountsWrites : Status → ℕ → ℕ → Type 0
 CountsWrites WriteFault before now = now ≡ one_more before
 CountsWrites status before now = now ≡ before

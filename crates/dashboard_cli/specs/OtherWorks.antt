@@ -52,10 +52,13 @@ RefusesTrace input status = ⊥
 -- scripts for a run through an inbox, plans, traces, or nothing
 abbrev pub inbox_scripts : Input
 inbox_scripts = record { most = Some limit; Takes = Says IsInboxText; Refuses = RefusesInbox }
+
 abbrev pub plans : Input
 plans = record { most = Some limit; Takes = Says IsValuesText; Refuses = RefusesPlan }
+
 abbrev pub traces : Input
 traces = record { most = Some trace_limit; Takes = Says IsTraceText; Refuses = RefusesTrace }
+
 abbrev pub no_input : Input
 no_input = record { most = None; Takes = λ input. Unit {0}; Refuses = λ input status. ⊥ }
 
@@ -78,6 +81,7 @@ RunsValues values made = IsRunOf values made.0 made.1
 -- what is returned beside a text: frames, or what came of an inbox
 abbrev pub only_frames : FrameRecord → Returned
 only_frames frames = record { report = None; frames = Some frames; inbox = None }
+
 abbrev pub only_inbox : InboxReport → Returned
 only_inbox report = record { report = None; frames = None; inbox = Some report }
 
@@ -85,13 +89,18 @@ only_inbox report = record { report = None; frames = None; inbox = Some report }
 -- histories of its queues are written; a trace is checked; a plan of values is run over frames; a script is run through an inbox
 abbrev pub Migrates : List ℕ → List ℕ → Returned → Type 0
 Migrates = Prints IsText up
+
 abbrev pub Sums : ℕ → List ℕ → List ℕ → Returned → Type 0
 Sums number = Writes (IsGenerated number) IsStaged (summary number) only_report
+
 abbrev pub WritesHistories : List ℕ → List ℕ → Returned → Type 0
 WritesHistories = Writes IsText IsStaged histories_text only_report
+
 abbrev pub Checks : List ℕ → List ℕ → Returned → Type 0
 Checks = Writes IsTraceText (λ trace. IsVerdict trace.queues) verdict_text (λ verdict. nothing)
+
 abbrev pub Animates : List ℕ → List ℕ → Returned → Type 0
 Animates = Writes IsValuesText RunsValues (λ made. made.0) (λ made. only_frames made.1)
+
 abbrev pub RunsInbox : List ℕ → List ℕ → Returned → Type 0
 RunsInbox = Writes IsInboxText IsInboxRun inbox_text only_inbox

@@ -41,6 +41,7 @@ IsInRange command = Unit {0}
 pub record IsAsked (words : List (List ℕ)) (command : Command) : Type 0 where
   pub fits : IsInRange command
   pub spelled : IsSpelled command words
+
 abbrev pub IsListed : List (List ℕ) → Type 0
 IsListed words = (command : Command) × IsAsked words command
 
@@ -73,5 +74,6 @@ makes_by shows command.Inbox = RunsInbox
 -- what this command does; and one that reads no clock
 abbrev pub work_by : (ℕ → Bool) → Command → Work
 work_by shows c = record { reads = reads_of c; Makes = makes_by shows c }
+
 abbrev pub work : Command → Work
 work c = work_by (λ reading. true) c

@@ -11,6 +11,7 @@ use Rattle.dashboard_cli.specs.declared.status.Status.TheVariants.{Script}
 -- the bytes that a source has left, or that a sink holds, where it tells them; and this input was read to its end, and it is no longer than the limit
 abbrev pub Known : Type 0
 Known = Option (List ℕ)
+
 pub record ReadsWhole (most : ℕ) (before after : Known) (input : List ℕ) : Type 0 where
   pub consumed : Consumes before after input
   pub ended : IsAtEnd after
@@ -32,9 +33,11 @@ Says {X} Text input = (x : X) × Text input x
 -- a script: the status names the least bad line of what should be one, and its first cause; a script or a plan may have so many bytes
 abbrev pub limit : ℕ
 limit = 1048576
+
 abbrev pub RefusesScript : List ℕ → Status → Type 0
 RefusesScript input (Script line (cause.Text why)) = IsRefusal input line why
 RefusesScript input status = ⊥
+
 abbrev pub scripts : Input
 scripts = record { most = Some limit; Takes = Says IsText; Refuses = RefusesScript }
 
@@ -58,5 +61,6 @@ pub record Writes {X R : Type 0} (Reads : List ℕ → X → Type 0) (Comes : X 
 -- what is returned beside a text: nothing, or a report
 abbrev pub nothing : Returned
 nothing = record { report = None; frames = None; inbox = None }
+
 abbrev pub only_report : Report → Returned
 only_report report = record { report = Some report; frames = None; inbox = None }

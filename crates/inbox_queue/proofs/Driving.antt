@@ -22,8 +22,9 @@ use Rattle.loop_model.specs.Pick.{first_eligible}
 use Rattle.loop_model.proofs.AfterLaws.{clock-snoc}
 use Rattle.run_model.specs.Senders.{entries_by}
 use Rattle.dash_script.specs.declared.script.Script.{Script}
-use Rattle.run_model.specs.Control.{is_planned_time, is_advance, is_halt, are_controls, is_controlled, is_quit_by_others, is_none_before, is_in_time}
-use Rattle.run_model.specs.Control.{comes_in_time, is_called_in_time, ends_halted, is_fresh, is_reached}
+use Rattle.run_model.specs.Control.{is_planned_time, is_advance, is_halt, are_controls, is_controlled, is_none_before, is_in_time, is_called_in_time}
+use Rattle.run_model.specs.Control.{ends_halted, is_fresh, is_reached}
+use Rattle.run_model.specs.Parts.{is_quit_by_others, comes_in_time}
 use Rattle.run_model.proofs.ControlLaws.{are_advances, are_controls-last, each_behind-snoc}
 use Rattle.run_model.proofs.RunLaws.{entries_by-own, entries_by-unchanged}
 use Rattle.inbox_queue.specs.declared.parcel.Parcel.{Parcel}

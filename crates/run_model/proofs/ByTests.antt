@@ -18,7 +18,8 @@ use Rattle.dash_script.specs.declared.script.Script.{Script}
 use Rattle.run_model.specs.Senders.{history_of, plain, call_of, token_in, entries_by, AreFor, sender_count}
 use Rattle.run_model.specs.Moments.{in_lockstep}
 use Rattle.run_model.specs.Planned.{Timed, lines_of, labels_on, lines_on, planned, IsNoEarlier, IsPlanned}
-use Rattle.run_model.specs.Run.{setting_of, IsRecordOf, all_entries}
+use Rattle.run_model.specs.Run.{setting_of, IsRecordOf}
+use Rattle.run_model.specs.Parts.{all_entries}
 
 -- the replies that a queue gives, behind these entries
 abbrev pub answers : Setting → Base → List Entry → List Entry → List (Option Reply)

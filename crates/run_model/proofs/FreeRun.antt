@@ -23,7 +23,8 @@ use Rattle.run_model.specs.Planned.{AreAsPlanned}
 use Rattle.run_model.specs.Loopers.{asked_then, after_act, first_looper}
 use Rattle.run_model.specs.FrameRecords.{timed_as_told}
 use Rattle.run_model.proofs.AskedInTurn.{rising_sorted}
-use Rattle.run_model.specs.Run.{IsRun, IsRecordOf, IsControlled, IsFrameRun, IsLooperRun, all_entries, setting_of}
+use Rattle.run_model.specs.Run.{IsRun, IsRecordOf, IsControlled, IsFrameRun, IsLooperRun, setting_of}
+use Rattle.run_model.specs.Parts.{all_entries}
 use Rattle.run_model.specs.Text.{text, lines}
 use Rattle.run_model.proofs.Below.{each_below}
 use Rattle.run_model.proofs.Table.{led}

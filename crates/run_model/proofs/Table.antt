@@ -37,7 +37,8 @@ use Rattle.run_model.specs.Control.{InBlock, is_controlled, is_called_in_time, a
 use Rattle.run_model.specs.Control.{is_planned_time, was_due_at, MayMoveTo}
 use Rattle.run_model.specs.Loopers.{Looper, Sent, first_looper, starts_frame, IsSent, MayCome, after_act, dispatched, asked_then}
 use Rattle.run_model.specs.FrameRecords.{millis_up, is_frame_from, has_stamp, are_run_then, are_whole, asks_in}
-use Rattle.run_model.specs.Run.{IsRun, IsRecordOf, IsAsPlanned, IsControlled, EachLooper, all_entries, setting_of, caused_on, are_in_order, main_ends_halted}
+use Rattle.run_model.specs.Run.{IsRun, IsRecordOf, IsAsPlanned, IsControlled, EachLooper, setting_of, caused_on, are_in_order, main_ends_halted}
+use Rattle.run_model.specs.Parts.{all_entries}
 use Rattle.run_model.specs.Text.{text, lines}
 use Rattle.run_model.proofs.Below.{EachBelow, each_below}
 use Rattle.run_model.proofs.Parting.{can_ask_in_turn, asks_are_in_turn}

@@ -25,12 +25,15 @@ use Rattle.run_model.specs.FrameRecords.{millis_up}
 abbrev pub is_advance : Call → Bool
 is_advance (Advance now) = true
 is_advance _ = false
+
 abbrev pub is_halt : Call → Bool
 is_halt (Halt now) = true
 is_halt _ = false
+
 abbrev pub is_quit : Call → Bool
 is_quit (Quit safe now) = true
 is_quit _ = false
+
 abbrev pub is_safe_quit : Call → Bool
 is_safe_quit (Quit safe now) = safe
 is_safe_quit _ = false
@@ -46,6 +49,7 @@ is_closing main lockstep end e =
 abbrev pub is_empty : List Entry → Bool
 is_empty [] = true
 is_empty (e ∷ es) = false
+
 abbrev pub are_controls : Bool → Bool → ℕ → Bool → List Entry → Bool
 are_controls main lockstep end quit [] = not main && quit
 are_controls main lockstep end quit (e ∷ es) =
@@ -53,13 +57,10 @@ are_controls main lockstep end quit (e ∷ es) =
     else is_empty es && is_closing main lockstep end e
 
 -- the controller's entries are such, where another sender's quit may have been done, and each queue but main is disposed of once
-abbrev pub is_quit_by_others : ℕ → List Entry → Bool
-is_quit_by_others sender es = list_any (λ e. is_quit_done e.reply && not (e.sender == sender)) es
-abbrev pub disposed_count : List Entry → ℕ
-disposed_count es = count_by (λ e. is_disposed e.reply) es
 unfoldable pub is_controlled : Bool → Bool → ℕ → ℕ → List Entry → Bool
 is_controlled main lockstep controller end es =
-    are_controls main lockstep end (is_quit_by_others controller es) (entries_by controller es) && (main || disposed_count es == 1)
+    are_controls main lockstep end (list_any (λ e. is_quit_done e.reply && not (e.sender == controller)) es) (entries_by controller es)
+    && (main || count_by (λ e. is_disposed e.reply) es == 1)
 
 -- the last entry is the Halt
 abbrev pub ends_halted : List Entry → Bool
@@ -72,6 +73,7 @@ ends_halted (e ∷ f ∷ es) = ends_halted (f ∷ es)
 abbrev pub is_none_before : ℕ → Option Item → Bool
 is_none_before time None = true
 is_none_before time (Some x) = nat_le time (when_of x)
+
 abbrev pub is_in_time : List Entry → Call → Reply → Bool
 is_in_time past (Advance now) reply = is_none_before now (first_eligible (empty_base 0) past) && not (is_some (quit_place (empty_base 0) past))
 is_in_time past (Quit safe now) reply = is_quit_done reply && not (is_some (pick (empty_base 0) past now))
@@ -83,25 +85,19 @@ each_behind test past [] = true
 each_behind test past (e ∷ es) = test past e && each_behind test (past ++ e ∷ []) es
 
 -- each Advance and each quit of this sender is in time
-abbrev pub comes_in_time : ℕ → List Entry → Entry → Bool
-comes_in_time sender past e = not (e.sender == sender) || is_in_time past e.call e.reply
 unfoldable pub is_called_in_time : ℕ → List Entry → Bool
-is_called_in_time sender es = each_behind (comes_in_time sender) [] es
+is_called_in_time sender es = each_behind (λ past e. not (e.sender == sender) || is_in_time past e.call e.reply) [] es
 
 -- each call of a thread (the senders below this number) comes before this sender's quit
-abbrev pub has_quit_by : ℕ → List Entry → Bool
-has_quit_by sender es = list_any (λ e. e.sender == sender && is_quit e.call) es
-abbrev pub comes_before_quit : ℕ → ℕ → List Entry → Entry → Bool
-comes_before_quit threads sender past e = not (nat_lt e.sender threads) || not (has_quit_by sender past)
 unfoldable pub are_before_quit : ℕ → ℕ → List Entry → Bool
-are_before_quit threads sender es = each_behind (comes_before_quit threads sender) [] es
-
--- ---- when a sender's calls come
+are_before_quit threads sender es =
+    each_behind (λ past e. not (nat_lt e.sender threads) || not (list_any (λ x. x.sender == sender && is_quit x.call) past)) [] es
 
 -- what stood before an entry: the queue's time, and whether the queue was disposed of
 pub record Before : Type 0 where
   pub clock : ℕ
   pub disposed : Bool
+
 abbrev pub before : List Entry → Before
 before past = record { clock = clock (empty_base 0) past; disposed = has_disposed (empty_base 0) past }
 
@@ -109,10 +105,9 @@ before past = record { clock = clock (empty_base 0) past; disposed = has_dispose
 abbrev pub befores_from : (Entry → Bool) → List Entry → List Entry → List Before
 befores_from test past [] = []
 befores_from test past (e ∷ es) = (if test e then before past ∷ [] else []) ++ befores_from test (past ++ e ∷ []) es
-abbrev pub befores_after : ℕ → List Entry → List Entry → List Before
-befores_after sender past es = befores_from (λ e. e.sender == sender) past es
+
 unfoldable pub befores : ℕ → List Entry → List Before
-befores sender es = befores_after sender [] es
+befores sender es = befores_from (λ e. e.sender == sender) [] es
 
 -- when a call is to come in lockstep
 pub data Timing : Type 0 where
@@ -128,12 +123,11 @@ abbrev pub is_on_time : Timing → Before → Bool
 is_on_time (At time) b = b.clock == time || b.disposed && nat_le b.clock time
 is_on_time (InBlock time) b = if b.disposed then nat_lt b.clock time else b.clock == time
 is_on_time (NotBefore time) b = nat_le time b.clock
+
 abbrev pub are_on_time : List Timing → List Before → Bool
 are_on_time [] [] = true
 are_on_time (t ∷ ts) (b ∷ bs) = is_on_time t b && are_on_time ts bs
 are_on_time _ _ = false
-
--- ---- how the queues' times are moved: all together, and only to a time at which something may come
 
 -- a move of a queue's time: to when, and the due time of the first message that might be dispatched just before it, if there was one
 pub record Move : Type 0 where
@@ -147,12 +141,14 @@ moves_after sender past (e ∷ es) =
     (if e.sender == sender && is_advance e.call
     then record { to = moment_of e.call; due = option_map when_of (first_eligible (empty_base 0) past) } ∷ [] else [])
     ++ moves_after sender (past ++ e ∷ []) es
+
 unfoldable pub moves : ℕ → List Entry → List Move
 moves sender es = moves_after sender [] es
 
 -- the times to which these moves go; and the moves of main, whose queue comes first
 abbrev pub move_times : List Move → List ℕ
 move_times ms = map (λ m. m.to) ms
+
 abbrev pub main_moves : List (List Move) → List Move
 main_moves [] = []
 main_moves (ms ∷ all) = ms
@@ -160,6 +156,7 @@ main_moves (ms ∷ all) = ms
 -- a block has this time, or the end; or just before the move of this number the first message that might be dispatched was due then
 abbrev pub is_planned_time : Script → ℕ → Bool
 is_planned_time s t = t == s.end || list_any (λ b. b.time == t) s.blocks
+
 abbrev pub was_due_at : ℕ → ℕ → List Move → Bool
 was_due_at number t ms = option_map_or (λ m. option_map_or (λ d. d == t) m.due false) (slice_get ms number) false
 
@@ -178,32 +175,23 @@ pub record AreMovedTogether (s : Script) (all : List (List Move)) : Type 0 where
   pub due : AllByRecursion (λ (number, t). MayMoveTo s all number t) (enumerate_from 0 (move_times (main_moves all)))
   pub together : AllByRecursion (λ (ms : List Move). IsPrefix (move_times ms) (move_times (main_moves all))) all
 
--- ---- calls of one kind that come first at their time, and times that are reached
-
 -- since the time was last moved, or from the start, only entries of this kind have come
-abbrev pub fresh_behind : (Entry → Bool) → Bool → Entry → Bool
-fresh_behind theirs fresh e = is_advance e.call || (fresh && theirs e)
 unfoldable pub is_fresh : (Entry → Bool) → List Entry → Bool
-is_fresh theirs es = fold (fresh_behind theirs) true es
+is_fresh theirs es = fold (λ fresh e. is_advance e.call || (fresh && theirs e)) true es
 
 -- the time of each of these blocks is the start's, or the queue's time was moved to it
-abbrev pub moves_to : ℕ → Entry → Bool
-moves_to time e = is_advance e.call && moment_of e.call == time
 unfoldable pub is_reached : ℕ → List Entry → Bool
-is_reached time es = time == 0 || list_any (moves_to time) es
+is_reached time es = time == 0 || list_any (λ e. is_advance e.call && moment_of e.call == time) es
+
 abbrev pub AreReached : List Block → List Entry → Type 0
 AreReached blocks es = AllByRecursion (λ (b : Block). is_reached b.time es ≡ true) blocks
 
--- ---- the threads' calls come before the loopers run a round, and main's time comes to each block
-
 -- on each queue each thread's call (a thread is a sender below this number) comes where only threads have called since the time was last moved, or behind the
 -- queue's disposal
-abbrev pub is_threads : ℕ → Entry → Bool
-is_threads threads e = nat_lt e.sender threads
-abbrev pub comes_first : ℕ → List Entry → Entry → Bool
-comes_first threads past e = not (is_threads threads e) || (has_disposed (empty_base 0) past || is_fresh (is_threads threads) past)
 unfoldable pub come_first : ℕ → List Entry → Bool
-come_first threads es = each_behind (comes_first threads) [] es
+come_first threads es =
+    each_behind (λ past e. not (nat_lt e.sender threads) || (has_disposed (empty_base 0) past || is_fresh (λ x. nat_lt x.sender threads) past)) [] es
+
 abbrev pub AreBlocksFirst : Script → List QueueRecord → Type 0
 AreBlocksFirst s queues = AllByRecursion (λ (q : QueueRecord). come_first s.threads (history_of q) ≡ true) queues
 
@@ -211,5 +199,6 @@ AreBlocksFirst s queues = AllByRecursion (λ (q : QueueRecord). come_first s.thr
 abbrev pub main_entries : List QueueRecord → List Entry
 main_entries [] = []
 main_entries (q ∷ queues) = history_of q
+
 abbrev pub AreBlocksReached : Script → List QueueRecord → Type 0
 AreBlocksReached s queues = AreReached s.blocks (main_entries queues)

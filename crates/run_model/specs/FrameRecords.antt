@@ -15,9 +15,11 @@ use Rattle.run_model.specs.Planned.{Timed, frame_due}
 abbrev pub is_begin : FrameEntry → Bool
 is_begin (Begin v s t) = true
 is_begin _ = false
+
 abbrev pub posted_id : FrameEntry → Option ℕ
 posted_id (Posted c) = Some c.id
 posted_id _ = None
+
 abbrev pub ran_id : List ℕ → FrameEntry → Option ℕ
 ran_id ids (Ran n) = slice_get ids n
 ran_id ids _ = None
@@ -36,6 +38,7 @@ is_frame_from fs first (Some place) = nat_le first place && option_map_or is_beg
 abbrev pub begins_with : ℕ → FrameEntry → Bool
 begins_with stamp (Begin vsync start time) = vsync == stamp
 begins_with stamp _ = false
+
 abbrev pub has_stamp : List FrameEntry → Option ℕ → ℕ → Bool
 has_stamp fs None stamp = true
 has_stamp fs (Some place) stamp = option_map_or (begins_with stamp) (slice_get fs place) false
@@ -45,9 +48,11 @@ has_stamp fs (Some place) stamp = option_map_or (begins_with stamp) (slice_get f
 pub record FrameAt : Type 0 where
   pub place : ℕ
   pub now : ℕ
+
 abbrev pub frames_after : List FrameAt → Option ℕ → ℕ → List FrameAt
 frames_after xs None now = xs
 frames_after xs (Some place) now = xs ++ record { place = place; now = now } ∷ []
+
 abbrev pub place_after : ℕ → Option ℕ → ℕ
 place_after first None = first
 place_after first (Some place) = place + 1
@@ -55,6 +60,7 @@ place_after first (Some place) = place + 1
 -- a time in milliseconds in nanoseconds, at most the greatest number of 64 bits; and one in nanoseconds in whole milliseconds, rounded up
 abbrev pub nanos_of : ℕ → ℕ
 nanos_of millis = min (millis * 1000000) (2 ^ 64 - 1)
+
 abbrev pub millis_up : ℕ → ℕ
 millis_up nanos = (nanos + 999999) / 1000000
 
@@ -63,22 +69,17 @@ abbrev pub moment_in : FrameEntry → Option ℕ
 moment_in (Begin vsync start time) = Some start
 moment_in (Take phase now time) = Some now
 moment_in _ = None
+
 abbrev pub frame_moments : List FrameEntry → ℕ → List ℕ
 frame_moments fs place = filter_map moment_in (take 1 (drop place fs) ++ before_first is_begin (drop (place + 1) fs))
 
 -- each of the frames started at the time of its dispatch, and took each phase then
-abbrev pub is_run_then : List FrameEntry → FrameAt → Bool
-is_run_then fs x = list_all (λ n. n == nanos_of x.now) (frame_moments fs x.place)
 abbrev pub are_run_then : List FrameEntry → List FrameAt → Bool
-are_run_then fs xs = list_all (is_run_then fs) xs
+are_run_then fs xs = list_all (λ x. list_all (λ n. n == nanos_of x.now) (frame_moments fs x.place)) xs
 
 -- each of the frames took all phases, of which there are so many
-abbrev pub is_whole : ℕ → List FrameEntry → FrameAt → Bool
-is_whole phases fs x = length (frame_moments fs x.place) == phases + 1
 abbrev pub are_whole : ℕ → List FrameEntry → List FrameAt → Bool
-are_whole phases fs xs = list_all (is_whole phases fs) xs
-
--- ---- what is asked for
+are_whole phases fs xs = list_all (λ x. length (frame_moments fs x.place) == phases + 1) xs
 
 pub data FrameAsk : Type 0 where
   -- to post a callback, due at this millisecond
@@ -94,6 +95,7 @@ asked_in (Posted c) = Some (Posts c.phase c.due c.id c.token)
 asked_in (Removed phase id token count) = Some (Removes phase id token)
 asked_in (Begin vsync start time) = Some (Runs start)
 asked_in _ = None
+
 abbrev pub asks_in : List FrameEntry → List FrameAsk
 asks_in fs = filter_map asked_in fs
 
@@ -114,8 +116,10 @@ asks_to_run xs = map (λ x. Runs (nanos_of x.now)) xs
 pub record TimedAsk : Type 0 where
   pub when : ℕ
   pub ask : FrameAsk
+
 abbrev pub in_block : ℕ → ℕ
 in_block time = 2 * time
+
 abbrev pub in_round : ℕ → ℕ
 in_round time = 2 * time + 1
 
@@ -128,6 +132,7 @@ abbrev pub asked_for : FrameAsk → ℕ
 asked_for (Posts phase due id token) = due
 asked_for (Removes phase id token) = 0
 asked_for (Runs start) = start / 1000000
+
 abbrev pub asked_in_rounds : List FrameAsk → List TimedAsk
 asked_in_rounds asks = map (λ a. record { when = in_round (asked_for a); ask = a }) asks
 
@@ -136,6 +141,7 @@ abbrev pub as_told : Bool → FrameAsk → FrameAsk
 as_told lockstep (Posts phase due id token) = Posts phase (if lockstep then due else 0) id token
 as_told lockstep (Removes phase id token) = Removes phase id token
 as_told lockstep (Runs start) = Runs (if lockstep then start else 0)
+
 abbrev pub timed_as_told : Bool → TimedAsk → TimedAsk
 timed_as_told lockstep x = record { when = if lockstep then x.when else 0; ask = as_told lockstep x.ask }
 

@@ -9,3 +9,4 @@ pub mod Run
 pub mod ByClock
 pub mod Text
 pub mod Summary
+pub mod Parts

@@ -1,6 +1,6 @@
 -- What a looper comes to: its gauges, its traversal, its rules, and the calls and frame callbacks that each act in its journal causes.
 use Rattle.std.specs.Prelude.{ℕ, ◌+◌, ◌-◌, ◌==◌, min, Bool, true, false, ◌&&◌, ◌||◌, not, nat_lt, nat_le, List, [], ◌∷◌, ◌++◌, Option, Some, None, is_some, map}
-use Rattle.std.specs.Prelude.{fold, slice_get, slice_set, replicate, length, if◌then◌else◌, ◌≡◌, ◌/◌, filter}
+use Rattle.std.specs.Prelude.{fold, slice_get, slice_set, replicate, length, if◌then◌else◌, ◌≡◌, ◌/◌}
 use Rattle.std.specs.List.{filter_map, zip, enumerate_from, range_with_len}
 use Rattle.std.specs.Option.{option_map_or, MatchOption}
 use Rattle.loop_model.specs.declared.post.Post.{Post as PostData}
@@ -64,14 +64,25 @@ pub record Looper : Type 0 where
 abbrev pub first_looper : Script → Looper
 first_looper s = record {
   gauges = replicate (length s.gauges) (record { value = 0; target = 0; animating = false });
-  barrier = None; barriers = 0; fired = replicate (length s.rules) 0; sent = []; posted = []; painted = []; stamp = 0; awaits = false; place = 0; frames = [];
+  barrier = None;
+  barriers = 0;
+  fired = replicate (length s.rules) 0;
+  sent = [];
+  posted = [];
+  painted = [];
+  stamp = 0;
+  awaits = false;
+  place = 0;
+  frames = [];
 }
 
 -- one call more, at a moment; one frame callback more, due at once; and another state of a gauge
 abbrev pub and_sends : ℕ → ℕ → Ask → Looper → Looper
 and_sends queue now ask a = record a { sent = a.sent ++ record { queue = queue; ask = ask; reply = None; timing = At now } ∷ [] }
+
 abbrev pub and_posts_frame : ℕ → ℕ → ℕ → Looper → Looper
 and_posts_frame now phase id a = record a { posted = a.posted ++ Posts phase (frame_due now 0) id None ∷ [] }
+
 abbrev pub with_gauge : ℕ → Gauge → Looper → Looper
 with_gauge g x a = record a { gauges = slice_set a.gauges g x }
 
@@ -88,6 +99,7 @@ target_set s q now g target x a =
     if x.animating || x.value == target then with_gauge g (record x { target = target }) a
     else traversal_requested s q now
     (and_posts_frame now animation_phase (animation_id g) (with_gauge g (record { value = x.value; target = target; animating = true }) a))
+
 abbrev pub object_set : Script → ℕ → ℕ → ℕ → ℕ → Looper → Looper
 object_set s q now g target a =
     if gauge_looper s g == q then option_map_or (λ x. target_set s q now g target x a) (slice_get a.gauges g) a else a
@@ -95,17 +107,17 @@ object_set s q now g target a =
 -- the callback of a gauge that is animating moves it by a step towards its target, but not past it, requests a traversal, and posts itself again or stops there
 abbrev pub moved : ℕ → ℕ → ℕ → ℕ
 moved step target value = if nat_le value target then min (value + step) target else value - min step (value - target)
+
 abbrev pub gauge_moved : Script → ℕ → ℕ → ℕ → Gauge → Looper → Looper
 gauge_moved s q now g x a =
     let value = moved (gauge_line s g).step x.target x.value in
     if value == x.target then traversal_requested s q now (with_gauge g (record { value = value; target = x.target; animating = false }) a)
     else and_posts_frame now animation_phase (animation_id g) (traversal_requested s q now (with_gauge g (record x { value = value }) a))
-abbrev pub animation_ran : Script → ℕ → ℕ → ℕ → Gauge → Looper → Looper
-animation_ran s q now g x a = if x.animating then gauge_moved s q now g x a else a
 
 -- the traversal's callback removes the barrier and paints the looper's gauges with their values, by rising number, where one is under way
 abbrev pub paints : Script → ℕ → List Gauge → List Act
 paints s q gauges = filter_map (λ (g, x). if gauge_looper s g == q then Some (Paint g x.value) else None) (enumerate_from 0 gauges)
+
 abbrev pub traversal_ran : Script → ℕ → ℕ → Looper → Looper
 traversal_ran s q now a =
     option_map_or (λ k. and_sends q now (Unbars k) (record a { barrier = None; painted = a.painted ++ paints s q a.gauges })) a.barrier a
@@ -114,26 +126,30 @@ traversal_ran s q now a =
 abbrev pub callback_ran : Script → ℕ → ℕ → Looper → ℕ → Looper
 callback_ran s q now a id =
     if id == traversal_id then traversal_ran s q now a
-    else if nat_le 1000000 id then option_map_or (λ x. animation_ran s q now (id - 1000000) x a) (slice_get a.gauges (id - 1000000)) a else a
+    else if nat_le 1000000 id then option_map_or (λ x. if x.animating then gauge_moved s q now (id - 1000000) x a else a) (slice_get a.gauges (id - 1000000)) a
+    else a
 
 -- every other message: each rule for it that is not used up fires, in script order, and sends its message, with the delay counted from the dispatch
 abbrev pub fires : PostData → Rule → ℕ → Bool
 fires m r count = m.handler == r.handler && m.what == r.what && nat_lt count r.times
+
 abbrev pub reaction : Script → ℕ → Rule → Sent
 reaction s now r = record {
-  queue = looper_of s r.to_handler; ask = Makes (Post (sent_by s r.to_handler r.to_what (moment_after now r.delay))); reply = None; timing = At now;
+  queue = looper_of s r.to_handler;
+  ask = Makes (Post (sent_by s r.to_handler r.to_what (moment_after now r.delay)));
+  reply = None;
+  timing = At now;
 }
+
 abbrev pub reacted : Script → ℕ → PostData → Looper → Looper
 reacted s now m a = record a {
   fired = map (λ (r, n). if fires m r n then n + 1 else n) (zip s.rules a.fired);
   sent = a.sent ++ filter_map (λ (r, n). if fires m r n then Some (reaction s now r) else None) (zip s.rules a.fired);
 }
 
--- the message starts a frame of looper q; where the message taken does, no pulse's frame is awaited any more
+-- the message starts a frame of looper q
 abbrev pub starts_frame : ℕ → PostData → Bool
 starts_frame q m = not (is_some m.callback) && m.handler == frame_handler q && m.what == 0
-abbrev pub and_starts : ℕ → PostData → Looper → Looper
-and_starts q m a = record a { awaits = a.awaits && not (starts_frame q m) }
 
 -- what the dispatch of a message causes, where the frame that it runs, if any, runs callbacks of these identities
 abbrev pub delivered : Script → ℕ → ℕ → List ℕ → PostData → Looper → Looper
@@ -146,14 +162,16 @@ delivered s q now ids m a =
 abbrev pub and_takes : ℕ → ℕ → ℕ → Looper → Looper
 and_takes q n now a = record a { sent = a.sent ++ record { queue = q; ask = Makes (Next now); reply = Some (Dispatched n); timing = At now } ∷ [] }
 
--- ---- the acts of its journal
-
--- a dispatch, by its message, at this time: it runs the frame that begins at this place, or none; what was painted before is told by then
-abbrev pub running : Option ℕ → ℕ → Looper → Looper
-running frame now a = record a { painted = []; place = place_after a.place frame; frames = frames_after a.frames frame now }
+-- a dispatch, by its message, at this time: it runs the frame that begins at this place, or none; what was painted before is told by then, and no pulse's
+-- frame is awaited any more where the message starts one
 abbrev pub dispatched : Script → ℕ → List FrameEntry → Option ℕ → ℕ → ℕ → Looper → Option PostData → Looper
 dispatched s q fs frame n now a None = a
-dispatched s q fs frame n now a (Some m) = delivered s q now (frame_ids fs frame) m (and_takes q n now (and_starts q m (running frame now a)))
+dispatched s q fs frame n now a (Some m) = delivered s q now (frame_ids fs frame) m (and_takes q n now (record a {
+  painted = [];
+  awaits = a.awaits && not (starts_frame q m);
+  place = place_after a.place frame;
+  frames = frames_after a.frames frame now;
+}))
 
 -- what looper q has come to after an act, by its queue's history and its frame record; a dispatch runs the frame that
 -- begins at this place, or none
@@ -161,7 +179,8 @@ unfoldable pub after_act : Script → ℕ → List Entry → List FrameEntry →
 after_act s q es fs frame a (Dispatch n now route) = record (dispatched s q fs frame n now a (post_at es n)) { painted = [] }
 after_act s q es fs frame a (Vsync stamp) = record a {
   sent = a.sent ++ record { queue = q; ask = Makes (Post (frame_message q 0 0 (stamp / 1000000))); reply = None; timing = NotBefore (millis_up stamp) } ∷ [];
-  stamp = stamp; awaits = true;
+  stamp = stamp;
+  awaits = true;
 }
 after_act s q es fs frame a (Paint g v) = record a { painted = a.painted ++ Paint g v ∷ [] }
 after_act s q es fs frame a (Idle i k) = a
@@ -196,9 +215,7 @@ abbrev pub Lead : Script → ℕ → List Entry → List FrameEntry → Looper �
 Lead s q es fs a [] b = a ≡ b
 Lead s q es fs a (x ∷ xs) b = (frame : Option ℕ) × (MayCome s q es fs frame a x × Lead s q es fs (after_act s q es fs frame a x) xs b)
 
--- the calls on one queue; and the last call of a looper that is not main: the look for a message that disposes of its queue
-abbrev pub sent_on : ℕ → List Sent → List Sent
-sent_on q xs = filter (λ x. x.queue == q) xs
+-- the last call of a looper that is not main: the look for a message that disposes of its queue
 abbrev pub closing : ℕ → ℕ → List Sent
 closing q now = if q == 0 then [] else record { queue = q; ask = Makes (Next now); reply = Some Disposed; timing = NotBefore 0 } ∷ []
 

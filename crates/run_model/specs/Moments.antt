@@ -21,6 +21,7 @@ in_lockstep = record { lockstep = true; shows = λ reading. true; start = 0 }
 -- this is so in lockstep; and in free mode
 abbrev pub IfLockstep : Mode → Type 0 → Type 0
 IfLockstep m P = MatchBool m.lockstep P (Unit {0})
+
 abbrev pub IfFree : Mode → Type 0 → Type 0
 IfFree m P = MatchBool m.lockstep (Unit {0}) P
 
@@ -44,6 +45,7 @@ has_moment (Post p) = false
 has_moment (Unbarrier token) = false
 has_moment (Remove f) = false
 has_moment _ = true
+
 abbrev pub IsOfClock : Mode → ℕ → Call → Type 0
 IsOfClock m time call = MatchBool (has_moment call) (IsMoment m (moment_of call) ⊎ (moment_of call ≡ time)) (Unit {0})
 
@@ -52,5 +54,6 @@ abbrev pub AreOfClockAfter : Mode → (Entry → Bool) → List Entry → List E
 AreOfClockAfter m test past [] = Unit {0}
 AreOfClockAfter m test past (e ∷ es) =
     MatchBool (test e) (IsOfClock m (clock (empty_base 0) past) e.call) (Unit {0}) × AreOfClockAfter m test (past ++ e ∷ []) es
+
 abbrev pub AreOfClock : Mode → (Entry → Bool) → List Entry → Type 0
 AreOfClock m test es = IfFree m (AreOfClockAfter m test [] es)

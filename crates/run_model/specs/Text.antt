@@ -24,26 +24,26 @@ use Rattle.frame_phases.specs.declared.entry.FrameRecord.{FrameRecord}
 use Rattle.run_model.specs.declared.report.Report.{Report}
 use Rattle.run_model.specs.Senders.{history_of}
 
--- a message's handler, and its number or its callback; and a dispatch of a message
+-- a message's handler, and its number or its callback
 abbrev pub subject : PostData → Words
 subject p = decimal p.handler ∷ option_map_or (λ c. codes "callback" ∷ decimal c ∷ []) p.callback (decimal p.what ∷ [])
-abbrev pub dispatch_words : ℕ → ℕ → PostData → Words
-dispatch_words now n p = decimal now ∷ codes "dispatch" ∷ decimal n ∷ subject p
 
 -- the lines of a history: each entry has none or one, by the accepted posts
 abbrev pub call_lines : List PostData → Call → Reply → List Words
-call_lines posts (Next now) (Dispatched n) = option_map_or (λ p. dispatch_words now n p ∷ []) (slice_get posts n) []
+call_lines posts (Next now) (Dispatched n) = option_map_or (λ p. (decimal now ∷ codes "dispatch" ∷ decimal n ∷ subject p) ∷ []) (slice_get posts n) []
 call_lines posts (Post p) (Refused place) = ((codes "refused" ∷ subject p) ++ codes "quit" ∷ decimal place ∷ []) ∷ []
 call_lines posts (Unbarrier token) NotPosted = (codes "not-posted" ∷ decimal token ∷ []) ∷ []
 call_lines posts (Quit safe now) NotAllowed = (codes "not-allowed" ∷ []) ∷ []
 call_lines posts (Quit safe now) (AlreadyQuit place) = (codes "already-quit" ∷ decimal place ∷ []) ∷ []
 call_lines posts _ _ = []
+
 abbrev pub history_lines : List Entry → List Words
 history_lines es = flat_map (λ e. call_lines (accepted_posts es) e.call e.reply) es
 
 -- how many accepted posts have which fate
 abbrev pub counted : (Fate → Bool) → List Fate → List ℕ
 counted test fs = decimal (count_by test fs)
+
 abbrev pub fates_line : List Fate → Words
 fates_line fs =
     codes "fates" ∷ codes "accepted" ∷ decimal (length fs) ∷ codes "dispatched" ∷ counted is_dispatched fs ∷ codes "removed" ∷ counted is_removed fs
@@ -59,10 +59,12 @@ act_lines _ = []
 abbrev pub posted_callback : FrameEntry → Option Callback
 posted_callback (Posted c) = Some c
 posted_callback _ = None
+
 abbrev pub frame_entry_lines : List Callback → FrameEntry → List Words
 frame_entry_lines cs (Begin vsync start time) = (codes "frame" ∷ decimal time ∷ []) ∷ []
 frame_entry_lines cs (Ran n) = option_map_or (λ c. (codes "run" ∷ decimal c.phase ∷ decimal c.id ∷ []) ∷ []) (slice_get cs n) []
 frame_entry_lines cs _ = []
+
 abbrev pub frame_lines : List FrameEntry → List Words
 frame_lines fs = flat_map (frame_entry_lines (filter_map posted_callback fs)) fs
 
@@ -71,6 +73,7 @@ abbrev pub looper_lines : QueueRecord → Journal → FrameRecord → List Words
 looper_lines q j f =
     (codes "looper" ∷ decimal q.looper ∷ []) ∷ history_lines (history_of q) ++ fates_line (fates (history_of q)) ∷ flat_map act_lines j.acts
     ++ frame_lines f.entries
+
 abbrev pub loopers_lines : List QueueRecord → List Journal → List FrameRecord → List Words
 loopers_lines qs js fs = flat_map (λ (q, (j, f)). looper_lines q j f) (zip qs (zip js fs))
 
@@ -78,5 +81,6 @@ loopers_lines qs js fs = flat_map (λ (q, (j, f)). looper_lines q j f) (zip qs (
 unfoldable pub lines : Report → List Words
 lines r =
     (codes "report" ∷ decimal r.script.edition ∷ []) ∷ loopers_lines r.queues r.journals r.frames ++ (codes "end" ∷ []) ∷ []
+
 unfoldable pub text : Report → List ℕ
 text r = flat_map line_text (lines r)

@@ -34,8 +34,9 @@ use Rattle.loop_model.proofs.WellFormedLaws.{All_recursive, All_indexed}
 use Rattle.dash_script.specs.declared.script.Script.{Script}
 use Rattle.looper_run.specs.Holding.{Sender}
 use Rattle.run_model.specs.Moments.{Mode}
-use Rattle.run_model.specs.Run.{IsRecordOf, IsControlled, all_entries, setting_of}
-use Rattle.run_model.specs.Control.{is_advance, is_halt, is_quit, is_safe_quit, is_empty, is_closing, are_controls, is_quit_by_others, disposed_count, is_controlled}
+use Rattle.run_model.specs.Run.{IsRecordOf, IsControlled, setting_of}
+use Rattle.run_model.specs.Parts.{all_entries, is_quit_by_others, disposed_count}
+use Rattle.run_model.specs.Control.{is_advance, is_halt, is_quit, is_safe_quit, is_empty, is_closing, are_controls, is_controlled}
 use Rattle.run_model.proofs.RunLaws.{entries_by-append, entries_by-own, entries_by-unchanged}
 use Rattle.run_model.proofs.ControlLaws.{are_advances as are_advances_in, are_controls-last, are_controls-quit}
 use Rattle.dash_hall.specs.declared.hall.Hall.{Hall}

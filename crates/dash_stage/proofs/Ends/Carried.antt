@@ -9,7 +9,8 @@ use Rattle.loop_model.specs.declared.record.QueueRecord.{QueueRecord}
 use Rattle.loop_model.proofs.WellFormedLaws.{All_recursive}
 use Rattle.dash_script.specs.declared.script.Script.{Script}
 use Rattle.run_model.specs.Moments.{Mode}
-use Rattle.run_model.specs.Planned.{lines_of, labels_on, MakeCalls}
+use Rattle.run_model.specs.Planned.{lines_of, labels_on}
+use Rattle.run_model.specs.Parts.{MakeCalls}
 use Rattle.run_model.specs.AskedSoFar.{lines_ask}
 use Rattle.run_model.specs.FrameRecords.{as_told}
 use Rattle.run_model.specs.Run.{IsAsPlanned}

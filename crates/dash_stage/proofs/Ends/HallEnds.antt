@@ -25,7 +25,8 @@ use Rattle.shared_queue.specs.Ends.{AreInOrder, HasCalls}
 use Rattle.shared_queue.proofs.Prefixes.{made_in-append}
 use Rattle.looper_run.specs.Holding.{Sender}
 use Rattle.run_model.specs.Moments.{Mode, AreOfClock, AreOfClockAfter}
-use Rattle.run_model.specs.Run.{IsRecordOf, all_entries, setting_of}
+use Rattle.run_model.specs.Run.{IsRecordOf, setting_of}
+use Rattle.run_model.specs.Parts.{all_entries}
 use Rattle.run_model.proofs.RunLaws.{entries_by-append}
 use Rattle.dash_hall.specs.declared.kit.Kit.{Kit}
 use Rattle.dash_hall.specs.Growth.{own}

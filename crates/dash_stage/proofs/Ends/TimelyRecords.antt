@@ -16,7 +16,8 @@ use Rattle.run_model.specs.Moments.{in_lockstep, Mode}
 use Rattle.run_model.specs.Planned.{lines_of, labels_on, lines_on}
 use Rattle.run_model.specs.Control.{is_called_in_time, are_before_quit, ends_halted, befores, InBlock, are_on_time, AreReached, come_first, AreBlocksFirst}
 use Rattle.run_model.specs.Control.{main_entries, AreBlocksReached}
-use Rattle.run_model.specs.Run.{IsRecordOf, IsTimely, all_entries, setting_of, main_ends_halted, are_in_order, IsBeforeQuit}
+use Rattle.run_model.specs.Run.{IsRecordOf, IsTimely, setting_of, main_ends_halted, are_in_order}
+use Rattle.run_model.specs.Parts.{all_entries, IsBeforeQuit}
 use Rattle.dash_hall.specs.declared.hall.Hall.{Hall}
 use Rattle.dash_hall.specs.declared.kit.Kit.{Kit}
 use Rattle.dash_threads.specs.declared.thread.PostingThread.{PostingThread}

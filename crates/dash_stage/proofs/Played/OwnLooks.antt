@@ -21,9 +21,10 @@ use Rattle.loop_model.specs.declared.reply.Reply.TheVariants.{Dispatched}
 use Rattle.run_model.specs.Planned.{frame_message}
 use Rattle.run_model.specs.Control.{At, NotBefore}
 use Rattle.loop_model.specs.Posts.{post_at}
-use Rattle.run_model.specs.Loopers.{Looper, Sent, Gauge, and_sends, moved, paints, traversal_requested, target_set, object_set, gauge_moved, animation_ran}
-use Rattle.run_model.specs.Loopers.{traversal_ran, callback_ran, fires, reaction, reacted, delivered, and_takes, and_posts_frame, with_gauge, and_starts}
-use Rattle.run_model.specs.Loopers.{running, dispatched, after_act, Lead, sent_on, IsSent}
+use Rattle.run_model.specs.Loopers.{Looper, Sent, Gauge, and_sends, moved, paints, traversal_requested, target_set, object_set, gauge_moved, traversal_ran}
+use Rattle.run_model.specs.Loopers.{callback_ran, fires, reaction, reacted, delivered, and_takes, and_posts_frame, with_gauge, dispatched, after_act, Lead}
+use Rattle.run_model.specs.Loopers.{IsSent}
+use Rattle.run_model.specs.Parts.{animation_ran, and_starts, running, sent_on}
 use Rattle.run_model.specs.FrameRecords.{millis_up, frame_ids}
 use Rattle.dash_loopers.specs.Loopers.{is_disposal}
 

@@ -27,8 +27,9 @@ use Rattle.looper_run.specs.Holding.{Sender}
 use Rattle.choreographer.specs.Known.{Known as Pass}
 use Rattle.run_model.specs.AskedSoFar.{tokens_in}
 use Rattle.run_model.specs.Moments.{Mode, IfLockstep}
-use Rattle.run_model.specs.Control.{NotBefore, Timing, befores, are_on_time, are_controls, is_quit_by_others, is_controlled, disposed_count}
-use Rattle.run_model.specs.Loopers.{Looper, Sent, first_looper, Lead, sent_on, closing, IsSent, asked_then}
+use Rattle.run_model.specs.Control.{NotBefore, Timing, befores, are_on_time, are_controls, is_controlled}
+use Rattle.run_model.specs.Parts.{is_quit_by_others, disposed_count, sent_on}
+use Rattle.run_model.specs.Loopers.{Looper, Sent, first_looper, Lead, closing, IsSent, asked_then}
 use Rattle.run_model.specs.FrameRecords.{are_whole, are_run_then, asks_in, AreAskedInTurn}
 use Rattle.run_model.specs.Run.{IsAsPlanned, IsControlled, IsLooperRun, IsFrameRun, EachLooper, setting_of, caused_on}
 use Rattle.run_model.proofs.RunLaws.{AreFor-snoc, sent_on-append, are_on_time-snoc}

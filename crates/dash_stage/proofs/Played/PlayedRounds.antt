@@ -19,8 +19,9 @@ use Rattle.dash_script.specs.Reading.{HasText}
 use Rattle.looper_run.specs.Holding.{Sender}
 use Rattle.looper_run.specs.Round.{is_ended}
 use Rattle.run_model.specs.Senders.{controller, looper_sender, sender_count, entries_by}
-use Rattle.run_model.specs.Control.{Before, Timing, At, InBlock, NotBefore, is_on_time, are_on_time, befores, befores_after, come_first}
-use Rattle.run_model.specs.Loopers.{Looper, Sent, sent_on}
+use Rattle.run_model.specs.Control.{Before, Timing, At, InBlock, NotBefore, is_on_time, are_on_time, befores, come_first}
+use Rattle.run_model.specs.Parts.{befores_after, sent_on}
+use Rattle.run_model.specs.Loopers.{Looper, Sent}
 use Rattle.run_model.specs.FrameRecords.{asks_in}
 use Rattle.run_model.proofs.RunLaws.{sent_on-append}
 use Rattle.dash_hall.specs.Hearing.{AtEach, HaveHeard}

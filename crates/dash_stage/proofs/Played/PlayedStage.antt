@@ -17,7 +17,8 @@ use Rattle.loop_model.proofs.Prefixes.{prefix_trans, prefix_length}
 use Rattle.looper_run.specs.Holding.{Sender}
 use Rattle.run_model.specs.Senders.{AreFor, entries_by, looper_sender}
 use Rattle.run_model.specs.AskedSoFar.{tokens_in}
-use Rattle.run_model.specs.Loopers.{Looper, first_looper, Lead, sent_on, IsSent}
+use Rattle.run_model.specs.Loopers.{Looper, first_looper, Lead, IsSent}
+use Rattle.run_model.specs.Parts.{sent_on}
 use Rattle.run_model.specs.Control.{are_on_time, befores}
 use Rattle.run_model.proofs.Growth.{Lead-entries}
 use Rattle.dash_hall.specs.declared.hall.Hall.{Hall}

@@ -23,7 +23,8 @@ use Rattle.dash_script.specs.declared.script.Script.{Script}
 use Rattle.looper_run.specs.Holding.{Sender}
 use Rattle.looper_run.specs.Round.{is_ended}
 use Rattle.run_model.specs.Senders.{entries_by, controller, sender_count}
-use Rattle.run_model.specs.Control.{is_advance, is_none_before, is_threads, come_first}
+use Rattle.run_model.specs.Control.{is_advance, is_none_before, come_first}
+use Rattle.run_model.specs.Parts.{is_threads}
 use Rattle.dash_loopers.specs.declared.looper.StageLooper.{StageLooper}
 use Rattle.dash_loopers.specs.Loopers.{IsSoundOn, setting_for, LooperKeeps}
 use Rattle.dash_hall.specs.Hearing.{AtEach, HaveHeard}

@@ -10,7 +10,8 @@ use Rattle.dash_script.specs.Causes.{phase_count}
 use Rattle.choreographer.specs.Known.{Known as Pass}
 use Rattle.looper_run.specs.Holding.{Sender}
 use Rattle.run_model.specs.Senders.{AreFor}
-use Rattle.run_model.specs.Loopers.{Lead, sent_on, IsSent, Looper, first_looper}
+use Rattle.run_model.specs.Loopers.{Lead, IsSent, Looper, first_looper}
+use Rattle.run_model.specs.Parts.{sent_on}
 use Rattle.run_model.specs.FrameRecords.{are_run_then, are_whole, as_told, asks_to_run}
 use Rattle.dash_hall.specs.declared.kit.Kit.{Kit}
 use Rattle.dash_hall.specs.Growth.{own}
