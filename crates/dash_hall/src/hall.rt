@@ -1,6 +1,6 @@
 //! What the senders of a run share.
 ghost use Rattle.std.specs.Prelude.{◌≡◌, ◌<◌, ◌+◌, [], ◌∷◌, map, length, All, IfOk, OnOk};
-ghost use Rattle.run_model.specs.Senders.{sender_count};
+ghost use Rattle.run_model.specs.Planned.{sender_count};
 ghost use Rattle.dash_hall.specs.Kits.{IsHall, AreKitsOf, AreQueuesOf, AreChoreographersOf, queue_constants, frame_constants, badge_for, frames_for};
 ghost use Rattle.dash_hall.specs.Dealing.{IsEmptyKit, EachGets, nothing, DealsPosters, DealsPasses, given_of, holder_of, HasCountedNothing, IsNewKit, AreUsedNowhere};
 

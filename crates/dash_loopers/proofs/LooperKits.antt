@@ -9,7 +9,7 @@ use Rattle.atomic_table.specs.Seated.{TableId}
 use Rattle.dash_script.specs.declared.script.Script.{Script}
 use Rattle.loop_model.specs.Base.{empty_base}
 use Rattle.loop_model.specs.Answers.{is_over}
-use Rattle.run_model.specs.Senders.{sender_count, entries_by}
+use Rattle.run_model.specs.Planned.{sender_count, entries_by}
 use Rattle.shared_queue.specs.Constants.{Constants}
 use Rattle.shared_queue.specs.Known.{Shared}
 use Rattle.choreographer.specs.Known.{Shared as Frames}

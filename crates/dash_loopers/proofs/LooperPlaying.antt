@@ -33,7 +33,7 @@ use Rattle.dash_loopers.specs.PlayingLaws.{goes_nowhere, comes_on}
 use Rattle.dash_loopers.proofs.LooperStands.{stands_pulse, by_dispatch, sends_dispatch, posts_dispatch, frames_dispatch, stands_dispatch}
 use Rattle.dash_loopers.proofs.PlaySteps.{waits_still}
 use Rattle.std.proofs.Math.Bool.{and-false}
-use Rattle.run_model.specs.Senders.{frame_handler}
+use Rattle.run_model.specs.Planned.{frame_handler}
 
 -- ---- calls more, and looks more
 

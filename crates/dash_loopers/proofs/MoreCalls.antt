@@ -10,7 +10,7 @@ use Rattle.loop_model.specs.declared.entry.Entry.{Entry}
 use Rattle.loop_model.specs.Entries.{is_next, is_disposed}
 use Rattle.dash_script.specs.declared.script.Script.{Script}
 use Rattle.looper_run.specs.Holding.{Sender}
-use Rattle.run_model.specs.Senders.{Makes as Asks, AreFor, plain, token_in}
+use Rattle.run_model.specs.Planned.{Makes as Asks, AreFor, plain, token_in}
 use Rattle.run_model.specs.AskedSoFar.{tokens_in}
 use Rattle.run_model.specs.Control.{Timing}
 use Rattle.run_model.specs.Loopers.{Looper, Sent, IsSent}

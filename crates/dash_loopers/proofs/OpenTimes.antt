@@ -7,7 +7,7 @@ use Rattle.std.proofs.lemmas.List.{map-append}
 use Rattle.loop_model.specs.declared.post.Post.{Post as PostData}
 use Rattle.loop_model.specs.declared.call.Call.TheVariants.{Barrier}
 use Rattle.dash_script.specs.declared.script.Script.{Script}
-use Rattle.run_model.specs.Senders.{Ask, Makes, Unbars, gauge_line, gauge_looper, frame_handler, animation_id, animation_phase, traversal_id, traversal_phase}
+use Rattle.run_model.specs.Planned.{Ask, Makes, Unbars, gauge_line, gauge_looper, frame_handler, animation_id, animation_phase, traversal_id, traversal_phase}
 use Rattle.run_model.specs.Planned.{frame_due}
 use Rattle.run_model.specs.Control.{At}
 use Rattle.run_model.specs.FrameRecords.{Posts, as_told, place_after, frames_after}

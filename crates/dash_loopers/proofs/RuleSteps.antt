@@ -17,7 +17,7 @@ use Rattle.dash_script.specs.declared.script.Rule.{Rule}
 use Rattle.dash_script.specs.declared.script.Script.{Script}
 use Rattle.looper_run.specs.Holding.{Sender}
 use Rattle.handler_post.specs.declared.handler.Handler.{Handler}
-use Rattle.run_model.specs.Senders.{Makes as Asks, AreFor, plain, looper_of, handler_line}
+use Rattle.run_model.specs.Planned.{Makes as Asks, AreFor, plain, looper_of, handler_line}
 use Rattle.run_model.specs.AskedSoFar.{tokens_in}
 use Rattle.run_model.specs.Control.{Timing, At}
 use Rattle.loop_model.specs.Posts.{moment_after}

@@ -10,7 +10,7 @@ use Rattle.choreographer.specs.Calls.{PulsedBy, DueBy}
 use Rattle.run_model.specs.FrameRecords.{nanos_of}
 use Rattle.run_model.specs.Loopers.{Looper, callback_ran, paints}
 use Rattle.run_model.specs.Parts.{animation_ran}
-use Rattle.run_model.specs.Senders.{frame_handler}
+use Rattle.run_model.specs.Planned.{frame_handler}
 use Rattle.dash_hall.specs.declared.host.Host.{Host}
 use Rattle.dash_hall.specs.Hosts.{sends_by}
 use Rattle.dash_script.specs.declared.script.Script.{Script}

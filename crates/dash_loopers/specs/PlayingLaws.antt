@@ -11,7 +11,7 @@ use Rattle.loop_model.specs.declared.journal.Act.{Act}
 use Rattle.loop_model.specs.declared.journal.Act.TheVariants.{Dispatch, Idle, Event, Vsync, Paint}
 use Rattle.dash_script.specs.declared.script.Script.{Script}
 use Rattle.looper_run.specs.Acts.{IsQuiet}
-use Rattle.run_model.specs.Senders.{entries_by}
+use Rattle.run_model.specs.Planned.{entries_by}
 use Rattle.run_model.specs.Control.{Timing, At, InBlock, NotBefore}
 use Rattle.run_model.specs.FrameRecords.{FrameAt}
 use Rattle.run_model.specs.Loopers.{Looper, first_looper, after_act}

@@ -10,7 +10,7 @@ use Rattle.loop_model.specs.declared.segment.Segment.{Segment}
 use Rattle.loop_model.specs.Base.{empty_base}
 use Rattle.loop_model.specs.Legal.{IsLegal, AreNumbered}
 use Rattle.loop_model.specs.Chain.{IsChainFrom}
-use Rattle.run_model.specs.Senders.{history_of, sender_count}
+use Rattle.run_model.specs.Planned.{history_of, sender_count}
 use Rattle.dash_script.specs.declared.script.Script.{Script}
 use Rattle.shared_queue.specs.Known.{Shared}
 use Rattle.shared_queue.specs.Constants.{Constants}

@@ -5,7 +5,7 @@ use Rattle.loop_model.specs.declared.journal.Journal.{Journal}
 use Rattle.loop_model.specs.declared.record.QueueRecord.{QueueRecord}
 use Rattle.frame_phases.specs.declared.entry.FrameRecord.{FrameRecord}
 use Rattle.dash_script.specs.declared.script.Script.{Script}
-use Rattle.run_model.specs.Senders.{history_of, controller}
+use Rattle.run_model.specs.Planned.{history_of, controller}
 use Rattle.run_model.specs.Moments.{Mode, in_lockstep}
 use Rattle.run_model.specs.Control.{moves, AreMovedTogether, AreBlocksFirst, AreBlocksReached}
 use Rattle.run_model.specs.Run.{IsAsPlanned, IsControlled, IsFrameRun, IsTimely, main_ends_halted}

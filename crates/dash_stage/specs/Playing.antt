@@ -7,7 +7,7 @@ use Rattle.loop_model.specs.Answers.{clock, is_over}
 use Rattle.dash_script.specs.declared.script.Script.{Script}
 use Rattle.looper_run.specs.Holding.{Sender}
 use Rattle.looper_run.specs.Round.{is_ended}
-use Rattle.run_model.specs.Senders.{looper_sender, sender_count}
+use Rattle.run_model.specs.Planned.{looper_sender, sender_count}
 use Rattle.run_model.specs.Control.{Before, befores, befores_from, Timing, At, InBlock, NotBefore, are_on_time, come_first}
 use Rattle.run_model.specs.Loopers.{Looper, first_looper}
 use Rattle.run_model.specs.Parts.{sent_on}

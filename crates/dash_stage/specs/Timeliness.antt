@@ -13,8 +13,7 @@ use Rattle.dash_script.specs.declared.script.Block.{Block}
 use Rattle.dash_script.specs.declared.script.Script.{Script}
 use Rattle.looper_run.specs.Holding.{Sender}
 use Rattle.looper_run.specs.Round.{is_ended}
-use Rattle.run_model.specs.Senders.{entries_by, controller, sender_count}
-use Rattle.run_model.specs.Planned.{lines_of, labels_on, lines_on}
+use Rattle.run_model.specs.Planned.{entries_by, controller, sender_count, lines_of, labels_on, lines_on}
 use Rattle.run_model.specs.Run.{are_in_order}
 use Rattle.run_model.specs.Control.{is_advance, is_halt, is_called_in_time, are_before_quit, is_none_before, befores, InBlock, are_on_time, ends_halted}
 use Rattle.run_model.specs.Control.{AreReached}

@@ -16,8 +16,7 @@ use Rattle.dash_script.specs.declared.script.Block.{Block}
 use Rattle.dash_script.specs.declared.script.Script.{Script}
 use Rattle.dash_script.specs.Causes.{commands, is_label, has_barrier}
 use Rattle.dash_script.specs.Reading.{HasText, label_fits, labels_fit}
-use Rattle.run_model.specs.Senders.{Unbars, call_of}
-use Rattle.run_model.specs.Planned.{Timed, lines_of, label_on, labels_on, planned}
+use Rattle.run_model.specs.Planned.{Unbars, call_of, Timed, lines_of, label_on, labels_on, planned}
 use Rattle.run_model.specs.Parts.{lines_in}
 use Rattle.dash_threads.specs.declared.labels.Labelled.{Labelled}
 use Rattle.dash_threads.specs.Planning.{removal_of}

@@ -45,18 +45,14 @@ pub record IsAsked (words : List (List ℕ)) (command : Command) : Type 0 where
 abbrev pub IsListed : List (List ℕ) → Type 0
 IsListed words = (command : Command) × IsAsked words command
 
--- what each command reads
+-- what each command reads: a script, but for these
 abbrev pub reads_of : Command → Input
-reads_of command.Run = scripts
-reads_of command.RunFree = scripts
-reads_of command.Text = scripts
-reads_of command.Migrate = scripts
 reads_of (command.Make number) = no_input
 reads_of (command.MakeRun number) = no_input
-reads_of command.Trace = scripts
 reads_of command.Check = traces
 reads_of command.Animate = plans
 reads_of command.Inbox = inbox_scripts
+reads_of _ = scripts
 
 -- what each command makes of it, by the numbers that the clock shows
 abbrev pub makes_by : (ℕ → Bool) → Command → List ℕ → List ℕ → Returned → Type 0

@@ -20,7 +20,7 @@ use Rattle.loop_model.specs.Entries.{moment_of, is_halted}
 use Rattle.loop_model.specs.Answers.{quit_place}
 use Rattle.loop_model.specs.Pick.{first_eligible}
 use Rattle.loop_model.proofs.AfterLaws.{clock-snoc}
-use Rattle.run_model.specs.Senders.{entries_by}
+use Rattle.run_model.specs.Planned.{entries_by}
 use Rattle.dash_script.specs.declared.script.Script.{Script}
 use Rattle.run_model.specs.Control.{is_planned_time, is_advance, is_halt, are_controls, is_controlled, is_none_before, is_in_time, is_called_in_time}
 use Rattle.run_model.specs.Control.{ends_halted, is_fresh, is_reached}

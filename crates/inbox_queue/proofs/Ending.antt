@@ -12,7 +12,7 @@ use Rattle.loop_model.specs.Legal.{IsLegal, AreNumbered}
 use Rattle.shared_queue.specs.Constants.{Constants}
 use Rattle.shared_queue.specs.Ends.{AreInOrder, HasCalls, AreNew}
 use Rattle.dash_script.specs.declared.script.Script.{Script}
-use Rattle.run_model.specs.Senders.{entries_by, history_of}
+use Rattle.run_model.specs.Planned.{entries_by, history_of}
 use Rattle.run_model.specs.Control.{is_controlled, is_called_in_time, ends_halted, each_behind, AreReached}
 use Rattle.run_model.specs.Run.{setting_of}
 use Rattle.inbox_queue.specs.declared.parcel.Parcel.{Parcel}

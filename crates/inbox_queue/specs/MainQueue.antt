@@ -11,7 +11,7 @@ use Rattle.loop_model.specs.Answers.{clock, quit_place}
 use Rattle.loop_model.specs.Items.{when_of}
 use Rattle.loop_model.specs.Pick.{first_eligible}
 use Rattle.shared_queue.specs.Known.{IsOf, IsSamePoster}
-use Rattle.run_model.specs.Senders.{entries_by}
+use Rattle.run_model.specs.Planned.{entries_by}
 use Rattle.dash_script.specs.declared.script.Script.{Script}
 use Rattle.run_model.specs.Control.{is_called_in_time, is_controlled, ends_halted, is_advance, each_behind, is_planned_time, is_fresh, is_reached}
 use Rattle.loop_model.specs.Entries.{moment_of}

@@ -8,7 +8,7 @@ use Rattle.loop_model.specs.Legal.{IsLegal, AreNumbered}
 use Rattle.dash_script.specs.declared.script.Script.{Script}
 use Rattle.shared_queue.specs.Known.{Shared, IsOf, made_by}
 use Rattle.atomic_table.specs.Seated.{TableId}
-use Rattle.run_model.specs.Senders.{history_of}
+use Rattle.run_model.specs.Planned.{history_of}
 use Rattle.run_model.specs.Run.{setting_of}
 use Rattle.inbox_queue.specs.declared.parcel.Parcel.{Parcel}
 use Rattle.inbox_queue.specs.declared.run.Opened.{Opened}

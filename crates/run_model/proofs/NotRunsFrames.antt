@@ -13,7 +13,7 @@ use Rattle.dash_script.specs.declared.script.Command.{Command}
 use Rattle.dash_script.specs.declared.script.Command.TheVariants as command
 use Rattle.dash_script.specs.declared.script.Line.{Line}
 use Rattle.dash_script.specs.declared.script.Script.{Script}
-use Rattle.run_model.specs.Senders.{history_of}
+use Rattle.run_model.specs.Planned.{history_of}
 use Rattle.run_model.specs.Moments.{in_lockstep}
 use Rattle.run_model.specs.Loopers.{Looper, first_looper, asked_then}
 use Rattle.run_model.specs.FrameRecords.{asks_in}

@@ -18,7 +18,7 @@ use Rattle.frame_phases.specs.Pulses.{are_stamped}
 use Rattle.dash_script.specs.declared.script.Script.{Script}
 use Rattle.dash_script.specs.Causes.{phase_count}
 use Rattle.run_model.specs.declared.report.Report.{Report}
-use Rattle.run_model.specs.Senders.{history_of, AreFor, entries_by, looper_sender, controller}
+use Rattle.run_model.specs.Planned.{history_of, AreFor, entries_by, looper_sender, controller}
 use Rattle.run_model.specs.Moments.{in_lockstep}
 use Rattle.run_model.specs.Control.{is_called_in_time, are_before_quit, befores, are_on_time, Move, moves, move_times, main_moves, MayMoveTo}
 use Rattle.run_model.specs.Loopers.{Looper, first_looper, MayCome, after_act, Lead, IsSent, asked_then}

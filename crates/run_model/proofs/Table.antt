@@ -30,9 +30,8 @@ use Rattle.dash_script.specs.declared.script.Block.{Block}
 use Rattle.dash_script.specs.declared.script.Script.{Script}
 use Rattle.dash_script.specs.Causes.{phase_count}
 use Rattle.run_model.specs.declared.report.Report.{Report}
-use Rattle.run_model.specs.Senders.{history_of, AreFor, plain, call_of, token_in, entries_by, looper_sender, controller, sender_count}
+use Rattle.run_model.specs.Planned.{history_of, AreFor, plain, call_of, token_in, entries_by, looper_sender, controller, sender_count, lines_of, labels_on}
 use Rattle.run_model.specs.Moments.{in_lockstep}
-use Rattle.run_model.specs.Planned.{lines_of, labels_on}
 use Rattle.run_model.specs.Control.{InBlock, is_controlled, is_called_in_time, are_before_quit, befores, are_on_time, Move, moves, move_times, main_moves}
 use Rattle.run_model.specs.Control.{is_planned_time, was_due_at, MayMoveTo}
 use Rattle.run_model.specs.Loopers.{Looper, Sent, first_looper, starts_frame, IsSent, MayCome, after_act, dispatched, asked_then}

@@ -6,8 +6,7 @@ use Rattle.frame_phases.specs.declared.entry.FrameEntry.{FrameEntry}
 use Rattle.frame_phases.specs.Parting.{dealt_to}
 use Rattle.dash_script.specs.declared.script.Block.{Block}
 use Rattle.run_model.specs.FrameRecords.{line_asks, FrameAsk, asks_in, TimedAsk, lines_ask_then, asked_in_rounds}
-use Rattle.run_model.specs.Senders.{token_in}
-use Rattle.run_model.specs.Planned.{lines_of, Timed}
+use Rattle.run_model.specs.Planned.{token_in, lines_of, Timed}
 
 -- the first of these asks is made no earlier than this time, and none before the one that it stands behind
 abbrev pub Rise : ℕ → List TimedAsk → Type 0

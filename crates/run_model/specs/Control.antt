@@ -18,7 +18,7 @@ use Rattle.loop_model.specs.declared.record.QueueRecord.{QueueRecord}
 use Rattle.frame_phases.specs.Frames.{is_pulse}
 use Rattle.dash_script.specs.declared.script.Script.{Script}
 use Rattle.dash_script.specs.declared.script.Block.{Block}
-use Rattle.run_model.specs.Senders.{entries_by, history_of}
+use Rattle.run_model.specs.Planned.{entries_by, history_of}
 use Rattle.run_model.specs.FrameRecords.{millis_up}
 
 -- calls of a kind

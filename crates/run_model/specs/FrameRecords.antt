@@ -108,10 +108,6 @@ line_asks looper l = of_command l.command
     of_command (Unframe lp phase id) = if lp == looper then Some (Removes phase id None) else None
     of_command _ = None
 
--- what these frames are asked for by, in order: each is to start at the time of its dispatch
-abbrev pub asks_to_run : List FrameAt → List FrameAsk
-asks_to_run xs = map (λ x. Runs (nanos_of x.now)) xs
-
 -- an ask, and when it is made: in the block of this time, or in a round of loopers at this time, which comes behind the block
 pub record TimedAsk : Type 0 where
   pub when : ℕ

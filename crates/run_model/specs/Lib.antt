@@ -1,4 +1,3 @@
-pub mod Senders
 pub mod Moments
 pub mod Planned
 pub mod FrameRecords

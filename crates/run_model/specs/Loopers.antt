@@ -16,11 +16,10 @@ use Rattle.frame_phases.specs.Frames.{is_pulse}
 use Rattle.frame_phases.specs.Pulses.{comes_after}
 use Rattle.dash_script.specs.declared.script.Rule.{Rule}
 use Rattle.dash_script.specs.declared.script.Script.{Script}
-use Rattle.run_model.specs.FrameRecords.{TimedAsk, asked_in_rounds, lines_ask_then, millis_up, FrameAsk, Posts, asks_to_run, FrameAt, frame_ids, is_frame_from}
-use Rattle.run_model.specs.FrameRecords.{has_stamp, place_after, frames_after}
-use Rattle.run_model.specs.Senders.{Ask, Makes, Unbars, plain, call_of, looper_of, gauge_line, gauge_looper, frame_handler, animation_id, animation_phase}
-use Rattle.run_model.specs.Senders.{traversal_id, traversal_phase}
-use Rattle.run_model.specs.Planned.{sent_by, frame_due, frame_message, lines_of}
+use Rattle.run_model.specs.FrameRecords.{TimedAsk, asked_in_rounds, lines_ask_then, millis_up, FrameAsk, Posts, FrameAt, frame_ids, is_frame_from, has_stamp}
+use Rattle.run_model.specs.FrameRecords.{place_after, frames_after, Runs, nanos_of}
+use Rattle.run_model.specs.Planned.{Ask, Makes, Unbars, plain, call_of, looper_of, gauge_line, gauge_looper, frame_handler, animation_id, animation_phase}
+use Rattle.run_model.specs.Planned.{traversal_id, traversal_phase, sent_by, frame_due, frame_message, lines_of}
 use Rattle.run_model.specs.Control.{Timing, At, NotBefore}
 
 pub record Gauge : Type 0 where
@@ -224,8 +223,9 @@ pub record IsSent (tokens : List ℕ) (x : Sent) (e : Entry) : Type 0 where
   pub call : plain e.call ≡ call_of tokens x.ask
   pub reply : MatchOption x.reply (Unit {0}) (λ r. e.reply ≡ r)
 
--- what each asks of a looper's choreographer, and when: a thread by its lines, and the looper by the frames that its dispatches run and by what its acts post
+-- what each asks of a looper's choreographer, and when: a thread by its lines, and the looper by the frames that its dispatches run, each to start at the
+-- time of its dispatch, and by what its acts post
 abbrev pub asked_then : Script → ℕ → Looper → List (List TimedAsk)
 asked_then s q final =
     map (λ thread. lines_ask_then q (lines_of thread s.blocks)) (range_with_len 0 s.threads)
-    ++ asked_in_rounds (asks_to_run final.frames) ∷ asked_in_rounds final.posted ∷ []
+    ++ asked_in_rounds (map (λ x. Runs (nanos_of x.now)) final.frames) ∷ asked_in_rounds final.posted ∷ []

@@ -15,12 +15,11 @@ use Rattle.frame_phases.specs.declared.entry.FrameEntry.{FrameEntry}
 use Rattle.dash_script.specs.declared.script.Script.{Script}
 use Rattle.dash_script.specs.declared.script.Block.{Block}
 use Rattle.run_model.specs.Control.{is_in_time, is_quit, is_advance, is_fresh, befores_from, befores, Before, InBlock, are_on_time, are_before_quit}
-use Rattle.run_model.specs.FrameRecords.{FrameAt, frame_moments, nanos_of, place_after, frames_after}
+use Rattle.run_model.specs.FrameRecords.{FrameAt, frame_moments, nanos_of, place_after, frames_after, FrameAsk, Runs}
 use Rattle.run_model.specs.Loopers.{Looper, Gauge, Sent, starts_frame, gauge_moved}
-use Rattle.run_model.specs.Planned.{Timed, IsPlanned, lines_on, lines_of, labels_on}
+use Rattle.run_model.specs.Planned.{Timed, IsPlanned, lines_on, lines_of, labels_on, history_of, AreFor, controller, entries_by}
 use Rattle.run_model.specs.Text.{subject}
-use Rattle.run_model.specs.Senders.{history_of, AreFor, controller}
-use Rattle.run_model.specs.Moments.{Mode}
+use Rattle.run_model.specs.Moments.{Mode, IfFree, AreOfClockAfter}
 
 abbrev pub comes_in_time : ℕ → List Entry → Entry → Bool
 comes_in_time sender past e = not (e.sender == sender) || is_in_time past e.call e.reply
@@ -89,3 +88,14 @@ IsThreadOnTime s r thread =
 
 abbrev pub dispatch_words : ℕ → ℕ → PostData → Words
 dispatch_words now n p = decimal now ∷ codes "dispatch" ∷ decimal n ∷ subject p
+
+abbrev pub AreOfClock : Mode → (Entry → Bool) → List Entry → Type 0
+AreOfClock m test es = IfFree m (AreOfClockAfter m test [] es)
+
+abbrev pub asks_to_run : List FrameAt → List FrameAsk
+asks_to_run xs = map (λ x. Runs (nanos_of x.now)) xs
+
+abbrev pub AreAsPlanned : Mode → Script → ℕ → ℕ → List Entry → Type 0
+AreAsPlanned m s thread q es =
+    AreFor (IsPlanned m s (labels_on q (lines_of thread s.blocks)) q) [] (lines_on s (labels_on q (lines_of thread s.blocks)) q (lines_of thread s.blocks))
+    (entries_by thread es)

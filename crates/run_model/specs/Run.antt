@@ -1,5 +1,6 @@
 -- When a report is a run of a script.
 use Rattle.std.specs.Prelude.{◌≡◌, ◌<◌, ℕ, ◌==◌, Bool, true, false, ◌||◌, not, nat_lt, nat_le, List, [], ◌∷◌, ◌++◌, map, length, count_by, slice_get, filter}
+use Rattle.std.specs.Prelude.{MatchBool}
 use Rattle.std.specs.List.{AllByRecursion, filter_map, list_all, range_with_len}
 use Rattle.std.specs.Option.{option_map_or}
 use Rattle.loop_model.specs.declared.entry.Entry.{Entry}
@@ -16,9 +17,8 @@ use Rattle.frame_phases.specs.Pulses.{are_stamped}
 use Rattle.dash_script.specs.declared.script.Script.{Script}
 use Rattle.dash_script.specs.Causes.{phase_count}
 use Rattle.run_model.specs.declared.report.Report.{Report}
-use Rattle.run_model.specs.Senders.{history_of, AreFor, entries_by, looper_sender, controller, sender_count}
-use Rattle.run_model.specs.Moments.{Mode, IfLockstep, IsStart, AreOfClock, in_lockstep}
-use Rattle.run_model.specs.Planned.{lines_of, labels_on, lines_on, times_on, AreAsPlanned}
+use Rattle.run_model.specs.Planned.{history_of, AreFor, entries_by, looper_sender, controller, sender_count, lines_of, labels_on, lines_on, times_on, IsPlanned}
+use Rattle.run_model.specs.Moments.{Mode, IfLockstep, in_lockstep, IfFree, AreOfClockAfter}
 use Rattle.run_model.specs.Control.{is_controlled, ends_halted, is_called_in_time, are_before_quit, befores, InBlock, are_on_time, each_behind, moves}
 use Rattle.run_model.specs.Control.{AreMovedTogether, AreBlocksFirst, AreBlocksReached}
 use Rattle.run_model.specs.Loopers.{Looper, Sent, first_looper, Lead, closing, IsSent, asked_then}
@@ -44,17 +44,19 @@ pub record IsRecordOf (m : Mode) (test : Entry → Bool) (s : Script) (r : Queue
   pub chain : IsChainFrom (empty_base r.senders) r.segments
   pub legal : IsLegal (setting_of r) (empty_base r.senders) (history_of r)
   pub numbered : AreNumbered (setting_of r) (empty_base r.senders) (history_of r)
-  pub clocked : AreOfClock m test (history_of r)
+  pub clocked : IfFree m (AreOfClockAfter m test [] (history_of r))
 
--- part 1 of a run: the queues' records, and the reading at the start
+-- part 1 of a run: the queues' records, and the reading at the start, which is one that the clock shows, and in lockstep 0
 pub record AreRecordsOf (m : Mode) (test : Entry → Bool) (s : Script) (r : Report) : Type 0 where
   pub mode : r.start ≡ m.start
-  pub start : IsStart m
+  pub start : MatchBool m.lockstep (m.start ≡ 0) (m.shows m.start ≡ true)
   pub histories : AllByRecursion (IsRecordOf m test s) r.queues
 
--- part 2 of a run: each thread's entries on each queue are as its lines plan them
+-- part 2 of a run: each thread's entries on each queue make the calls of its lines there, one for one and in order
 abbrev pub IsAsPlanned : Mode → Script → QueueRecord → Type 0
-IsAsPlanned m s r = (thread : ℕ) → thread < s.threads → AreAsPlanned m s thread r.looper (history_of r)
+IsAsPlanned m s r = (thread : ℕ) → thread < s.threads →
+    AreFor (IsPlanned m s (labels_on r.looper (lines_of thread s.blocks)) r.looper) []
+    (lines_on s (labels_on r.looper (lines_of thread s.blocks)) r.looper (lines_of thread s.blocks)) (entries_by thread (history_of r))
 
 -- part 3 of a run: the controller's entries on each queue are its own, and the queue is disposed of once unless it is main
 abbrev pub IsControlled : Script → QueueRecord → Type 0

@@ -22,7 +22,7 @@ use Rattle.frame_phases.specs.declared.entry.FrameEntry.{FrameEntry}
 use Rattle.frame_phases.specs.declared.entry.FrameEntry.TheVariants.{Posted, Begin, Ran}
 use Rattle.frame_phases.specs.declared.entry.FrameRecord.{FrameRecord}
 use Rattle.run_model.specs.declared.report.Report.{Report}
-use Rattle.run_model.specs.Senders.{history_of}
+use Rattle.run_model.specs.Planned.{history_of}
 
 -- a message's handler, and its number or its callback
 abbrev pub subject : PostData → Words

@@ -11,7 +11,7 @@ use Rattle.loop_model.specs.Base.{empty_base}
 use Rattle.loop_model.specs.Answers.{Setting}
 use Rattle.loop_model.specs.Legal.{AreNumbered}
 use Rattle.loop_model.proofs.AfterLaws.{disposed_stays}
-use Rattle.run_model.specs.Senders.{entries_by}
+use Rattle.run_model.specs.Planned.{entries_by}
 use Rattle.run_model.specs.Control.{each_behind, come_first}
 use Rattle.run_model.specs.Parts.{is_threads, comes_first}
 use Rattle.run_model.proofs.ControlLaws.{each_behind-snoc, each_behind-append}

@@ -8,7 +8,7 @@ use Rattle.std.proofs.Math.Bool.{and_assoc, or-false}
 use Rattle.std.proofs.Math.Nat.{max-eq_left}
 use Rattle.std.proofs.lemmas.Bool.{and_parts, and_from, cases_Bool, or_parts, or_from, or_left, or_right, or_cases, false_from_ne_true, leb-true, le-leb, eq-eqb, ne_eqb}
 use mathlib.Core.List.{IsPrefix}
-use Rattle.run_model.specs.Senders.{history_of, entries_by, controller, sender_count}
+use Rattle.run_model.specs.Planned.{history_of, entries_by, controller, sender_count}
 use Rattle.loop_model.specs.declared.post.Post.{Post as PostData}
 use Rattle.loop_model.specs.declared.call.Call.{Call}
 use Rattle.loop_model.specs.declared.call.Call.TheVariants.{Post, Barrier, Unbarrier, Remove, Quit, Next, Advance, Halt}

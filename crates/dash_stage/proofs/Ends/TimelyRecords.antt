@@ -3,7 +3,7 @@ use Rattle.std.proofs.Common.{◌≡◌, ◌<◌, ◌==◌, ℕ, suc, true, List
 use Rattle.std.specs.List.{remove, AllByRecursion}
 use Rattle.std.proofs.lemmas.List.{get_or-map}
 use mathlib.Core.List.{IsPrefix}
-use Rattle.run_model.specs.Senders.{history_of, entries_by, controller, sender_count}
+use Rattle.run_model.specs.Planned.{history_of, entries_by, controller, sender_count, lines_of, labels_on, lines_on}
 use Rattle.loop_model.specs.declared.entry.Entry.{Entry}
 use Rattle.loop_model.specs.declared.record.QueueRecord.{QueueRecord}
 use Rattle.loop_model.specs.Base.{empty_base}
@@ -13,7 +13,6 @@ use Rattle.loop_model.proofs.WellFormedLaws.{All_recursive, All_indexed}
 use Rattle.dash_script.specs.declared.script.Script.{Script}
 use Rattle.looper_run.specs.Holding.{Sender}
 use Rattle.run_model.specs.Moments.{in_lockstep, Mode}
-use Rattle.run_model.specs.Planned.{lines_of, labels_on, lines_on}
 use Rattle.run_model.specs.Control.{is_called_in_time, are_before_quit, ends_halted, befores, InBlock, are_on_time, AreReached, come_first, AreBlocksFirst}
 use Rattle.run_model.specs.Control.{main_entries, AreBlocksReached}
 use Rattle.run_model.specs.Run.{IsRecordOf, IsTimely, setting_of, main_ends_halted, are_in_order}

@@ -25,7 +25,7 @@ use Rattle.loop_model.proofs.LegalLaws.{IsLegal-last}
 use Rattle.loop_model.proofs.Sorting.{AllByRecursion-weaker}
 use Rattle.dash_script.specs.declared.script.Script.{Script}
 use Rattle.looper_run.specs.Holding.{Sender}
-use Rattle.run_model.specs.Senders.{entries_by, controller, sender_count}
+use Rattle.run_model.specs.Planned.{entries_by, controller, sender_count}
 use Rattle.run_model.specs.Control.{is_advance, Move, moves, move_times, main_moves, is_planned_time, MayMoveTo, AreMovedTogether}
 use Rattle.dash_loopers.specs.declared.looper.StageLooper.{StageLooper}
 use Rattle.dash_loopers.specs.Loopers.{IsSoundOn, setting_for}

@@ -1,7 +1,7 @@
 -- The dispatches that the journals tell are those that the records' histories have.
 use Rattle.std.proofs.Common.{◌≡◌, ◌<◌, ◌+◌, ℕ, suc, List, [], ◌∷◌, length, sym, ap, ◌∙◌, arith, slice_index_or}
 use Rattle.std.specs.List.{filter_map}
-use Rattle.run_model.specs.Senders.{history_of, entries_by, looper_sender}
+use Rattle.run_model.specs.Planned.{history_of, entries_by, looper_sender}
 use Rattle.loop_model.specs.declared.entry.Entry.{Entry}
 use Rattle.loop_model.specs.declared.journal.Journal.{Journal}
 use Rattle.loop_model.specs.declared.record.QueueRecord.{QueueRecord}

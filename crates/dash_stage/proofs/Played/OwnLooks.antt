@@ -15,10 +15,9 @@ use Rattle.loop_model.proofs.Sorting.{AllByRecursion-append}
 use Rattle.frame_phases.specs.declared.entry.FrameEntry.{FrameEntry}
 use Rattle.dash_script.specs.declared.script.Rule.{Rule}
 use Rattle.dash_script.specs.declared.script.Script.{Script}
-use Rattle.run_model.specs.Senders.{Ask, Makes, Unbars, plain, call_of, token_in, AreFor, frame_handler, gauge_looper, gauge_line, animation_phase}
-use Rattle.run_model.specs.Senders.{animation_id, traversal_phase, traversal_id}
+use Rattle.run_model.specs.Planned.{Ask, Makes, Unbars, plain, call_of, token_in, AreFor, frame_handler, gauge_looper, gauge_line, animation_phase}
+use Rattle.run_model.specs.Planned.{animation_id, traversal_phase, traversal_id, frame_message}
 use Rattle.loop_model.specs.declared.reply.Reply.TheVariants.{Dispatched}
-use Rattle.run_model.specs.Planned.{frame_message}
 use Rattle.run_model.specs.Control.{At, NotBefore}
 use Rattle.loop_model.specs.Posts.{post_at}
 use Rattle.run_model.specs.Loopers.{Looper, Sent, Gauge, and_sends, moved, paints, traversal_requested, target_set, object_set, gauge_moved, traversal_ran}

@@ -7,7 +7,7 @@ use Rattle.std.proofs.lemmas.List.{map-append, get_or_default, length-replicate}
 use mathlib.Core.Logic.{dite}
 use mathlib.Core.List.{IsPrefix}
 use native.Mathlib.Decide.{ℕ_discrete, dec_lt}
-use Rattle.run_model.specs.Senders.{history_of, Makes, AreFor, entries_by, looper_sender, controller, sender_count}
+use Rattle.run_model.specs.Planned.{history_of, Makes, AreFor, entries_by, looper_sender, controller, sender_count}
 use Rattle.loop_model.specs.declared.call.Call.TheVariants.{Next}
 use Rattle.loop_model.specs.declared.entry.Entry.{Entry}
 use Rattle.loop_model.specs.Entries.{moment_of}

@@ -18,7 +18,7 @@ use Rattle.dash_script.specs.declared.script.Script.{Script}
 use Rattle.dash_script.specs.Reading.{HasText}
 use Rattle.looper_run.specs.Holding.{Sender}
 use Rattle.looper_run.specs.Round.{is_ended}
-use Rattle.run_model.specs.Senders.{controller, looper_sender, sender_count, entries_by}
+use Rattle.run_model.specs.Planned.{controller, looper_sender, sender_count, entries_by}
 use Rattle.run_model.specs.Control.{Before, Timing, At, InBlock, NotBefore, is_on_time, are_on_time, befores, come_first}
 use Rattle.run_model.specs.Parts.{befores_after, sent_on}
 use Rattle.run_model.specs.Loopers.{Looper, Sent}

@@ -15,7 +15,7 @@ use Rattle.dash_script.specs.declared.script.Script.{Script}
 use Rattle.frame_phases.specs.declared.entry.FrameEntry.{FrameEntry}
 use Rattle.loop_model.proofs.Prefixes.{prefix_trans, prefix_length}
 use Rattle.looper_run.specs.Holding.{Sender}
-use Rattle.run_model.specs.Senders.{AreFor, entries_by, looper_sender}
+use Rattle.run_model.specs.Planned.{AreFor, entries_by, looper_sender}
 use Rattle.run_model.specs.AskedSoFar.{tokens_in}
 use Rattle.run_model.specs.Loopers.{Looper, first_looper, Lead, IsSent}
 use Rattle.run_model.specs.Parts.{sent_on}

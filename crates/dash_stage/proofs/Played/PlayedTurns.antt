@@ -22,7 +22,7 @@ use Rattle.loop_model.proofs.LegalLaws.{IsLegal-last}
 use Rattle.dash_script.specs.declared.script.Script.{Script}
 use Rattle.looper_run.specs.Holding.{Sender}
 use Rattle.looper_run.specs.Round.{is_ended}
-use Rattle.run_model.specs.Senders.{entries_by, controller, sender_count}
+use Rattle.run_model.specs.Planned.{entries_by, controller, sender_count}
 use Rattle.run_model.specs.Control.{is_advance, is_none_before, come_first}
 use Rattle.run_model.specs.Parts.{is_threads}
 use Rattle.dash_loopers.specs.declared.looper.StageLooper.{StageLooper}

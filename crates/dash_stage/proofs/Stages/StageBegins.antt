@@ -13,7 +13,7 @@ use Rattle.loop_model.specs.Answers.{clock, has_disposed, has_halted, quit_place
 use Rattle.dash_script.specs.declared.script.Script.{Script}
 use Rattle.looper_run.specs.Holding.{Sender}
 use Rattle.looper_run.specs.Round.{is_ended}
-use Rattle.run_model.specs.Senders.{looper_sender, sender_count}
+use Rattle.run_model.specs.Planned.{looper_sender, sender_count}
 use Rattle.run_model.specs.Control.{is_called_in_time, are_before_quit, befores, are_on_time, come_first}
 use Rattle.run_model.specs.Loopers.{first_looper}
 use Rattle.run_model.specs.Run.{are_in_order}

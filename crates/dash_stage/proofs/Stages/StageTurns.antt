@@ -18,9 +18,8 @@ use Rattle.dash_script.specs.declared.script.Line.{Line}
 use Rattle.dash_script.specs.declared.script.Script.{Script}
 use Rattle.dash_script.specs.Reading.{rise}
 use Rattle.looper_run.specs.Holding.{Sender}
-use Rattle.run_model.specs.Senders.{controller, sender_count, AreFor, entries_by, token_in}
+use Rattle.run_model.specs.Planned.{controller, sender_count, AreFor, entries_by, token_in, Timed, lines_of, labels_on, lines_on}
 use Rattle.run_model.specs.Moments.{in_lockstep}
-use Rattle.run_model.specs.Planned.{Timed, lines_of, labels_on, lines_on}
 use Rattle.run_model.specs.Parts.{lines_in}
 use Rattle.run_model.specs.Control.{is_in_time, is_called_in_time, are_before_quit, ends_halted, befores, before, InBlock, is_on_time, are_on_time, AreReached}
 use Rattle.run_model.specs.Run.{are_in_order}

@@ -20,8 +20,7 @@ use Rattle.loop_model.proofs.Growing.{entry_by_entry}
 use Rattle.loop_model.proofs.LegalLaws.{IsLegal-front}
 use Rattle.loop_model.proofs.NumberLaws.{AreNumbered-front, AreNumbered-last}
 use Rattle.loop_model.proofs.Sorting.{AllByRecursion-filter, AllByRecursion-weaker}
-use Rattle.run_model.specs.Senders.{entries_by}
-use Rattle.run_model.specs.Planned.{Timed, lines_on}
+use Rattle.run_model.specs.Planned.{entries_by, Timed, lines_on}
 use Rattle.run_model.specs.Control.{is_quit, is_in_time, each_behind, is_called_in_time, are_before_quit, ends_halted, Before, before, befores, befores_from}
 use Rattle.run_model.specs.Control.{Timing, At, InBlock, is_on_time, are_on_time}
 use Rattle.run_model.specs.Parts.{comes_in_time, has_quit_by, comes_before_quit, befores_after}

@@ -6,7 +6,7 @@ use Rattle.frame_phases.specs.declared.entry.FrameRecord.{FrameRecord}
 use Rattle.run_model.specs.Moments.{in_lockstep}
 use Rattle.run_model.specs.Run.{IsAsPlanned, IsControlled, IsFrameRun, IsLooperRun, IsTimely, EachLooper, main_ends_halted}
 use Rattle.run_model.specs.Parts.{IsBeforeQuit}
-use Rattle.run_model.specs.Senders.{controller, history_of}
+use Rattle.run_model.specs.Planned.{controller, history_of}
 use Rattle.run_model.specs.Control.{moves, AreMovedTogether, AreBlocksFirst, AreBlocksReached}
 use Rattle.dash_stage.specs.Records.{AreQueueRecords, AreJournals, AreFrameRecords}
 use Rattle.dash_stage.proofs.kept.report.Goals as goal
