@@ -161,8 +161,7 @@ delivered s q now ids m a =
 abbrev pub and_takes : ℕ → ℕ → ℕ → Looper → Looper
 and_takes q n now a = record a { sent = a.sent ++ record { queue = q; ask = Makes (Next now); reply = Some (Dispatched n); timing = At now } ∷ [] }
 
--- a dispatch, by its message, at this time: it runs the frame that begins at this place, or none; what was painted before is told by then, and no pulse's
--- frame is awaited any more where the message starts one
+-- a dispatch, by its message, at this time: it runs the frame that begins at this place, or none, and what was painted before is told by then
 abbrev pub dispatched : Script → ℕ → List FrameEntry → Option ℕ → ℕ → ℕ → Looper → Option PostData → Looper
 dispatched s q fs frame n now a None = a
 dispatched s q fs frame n now a (Some m) = delivered s q now (frame_ids fs frame) m (and_takes q n now (record a {
@@ -172,8 +171,7 @@ dispatched s q fs frame n now a (Some m) = delivered s q now (frame_ids fs frame
   frames = frames_after a.frames frame now;
 }))
 
--- what looper q has come to after an act, by its queue's history and its frame record; a dispatch runs the frame that
--- begins at this place, or none
+-- what looper q has come to after an act, by its queue's history and its frame record; a dispatch runs the frame that begins at this place, or none
 unfoldable pub after_act : Script → ℕ → List Entry → List FrameEntry → Option ℕ → Looper → Act → Looper
 after_act s q es fs frame a (Dispatch n now route) = record (dispatched s q fs frame n now a (post_at es n)) { painted = [] }
 after_act s q es fs frame a (Vsync stamp) = record a {
@@ -223,8 +221,7 @@ pub record IsSent (tokens : List ℕ) (x : Sent) (e : Entry) : Type 0 where
   pub call : plain e.call ≡ call_of tokens x.ask
   pub reply : MatchOption x.reply (Unit {0}) (λ r. e.reply ≡ r)
 
--- what each asks of a looper's choreographer, and when: a thread by its lines, and the looper by the frames that its dispatches run, each to start at the
--- time of its dispatch, and by what its acts post
+-- what each asks of a choreographer, and when: a thread by its lines, and its looper by the frames of its dispatches, at once, and by what its acts post
 abbrev pub asked_then : Script → ℕ → Looper → List (List TimedAsk)
 asked_then s q final =
     map (λ thread. lines_ask_then q (lines_of thread s.blocks)) (range_with_len 0 s.threads)

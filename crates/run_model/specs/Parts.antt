@@ -1,8 +1,9 @@
 -- Parts of the definitions of a run, which are written out there, by the names that proofs use.
 use Rattle.std.specs.Prelude.{ℕ, ◌==◌, Bool, true, ◌&&◌, ◌||◌, not, nat_lt, List, [], ◌∷◌, Option, count_by, if◌then◌else◌, ◌≡◌, map, ◌+◌, length, filter}
-use Rattle.std.specs.Prelude.{codes}
-use Rattle.std.specs.List.{list_any, list_all}
+use Rattle.std.specs.Prelude.{codes, slice_get, false}
+use Rattle.std.specs.List.{list_any, list_all, range_with_len}
 use Rattle.std.specs.Fmt.{decimal}
+use Rattle.std.specs.Option.{option_map_or}
 use Rattle.loop_model.specs.declared.entry.Entry.{Entry}
 use Rattle.loop_model.specs.Entries.{moment_of, is_quit_done, is_disposed}
 use Rattle.loop_model.specs.Base.{empty_base}
@@ -17,9 +18,10 @@ use Rattle.dash_script.specs.declared.script.Block.{Block}
 use Rattle.run_model.specs.Control.{is_in_time, is_quit, is_advance, is_fresh, befores_from, befores, Before, InBlock, are_on_time, are_before_quit}
 use Rattle.run_model.specs.FrameRecords.{FrameAt, frame_moments, nanos_of, place_after, frames_after, FrameAsk, Runs}
 use Rattle.run_model.specs.Loopers.{Looper, Gauge, Sent, starts_frame, gauge_moved}
-use Rattle.run_model.specs.Planned.{Timed, IsPlanned, lines_on, lines_of, labels_on, history_of, AreFor, controller, entries_by}
+use Rattle.run_model.specs.Planned.{Timed, IsPlanned, lines_on, lines_of, labels_on, history_of, AreFor, controller, entries_by, times_on}
 use Rattle.run_model.specs.Text.{subject}
 use Rattle.run_model.specs.Moments.{Mode, IfFree, AreOfClockAfter}
+use Rattle.run_model.specs.Run.{has_called_before}
 
 abbrev pub comes_in_time : ℕ → List Entry → Entry → Bool
 comes_in_time sender past e = not (e.sender == sender) || is_in_time past e.call e.reply
@@ -99,3 +101,9 @@ abbrev pub AreAsPlanned : Mode → Script → ℕ → ℕ → List Entry → Typ
 AreAsPlanned m s thread q es =
     AreFor (IsPlanned m s (labels_on q (lines_of thread s.blocks)) q) [] (lines_on s (labels_on q (lines_of thread s.blocks)) q (lines_of thread s.blocks))
     (entries_by thread es)
+
+abbrev pub comes_in_order : Script → ℕ → List Entry → Entry → Bool
+comes_in_order s q past e =
+    not (nat_lt e.sender s.threads)
+    || option_map_or (λ time. list_all (has_called_before s q time past) (range_with_len 0 s.threads))
+    (slice_get (times_on s q e.sender) (length (entries_by e.sender past))) false

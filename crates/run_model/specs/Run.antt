@@ -100,14 +100,11 @@ EachLooper P _ _ _ = ⊥
 abbrev pub has_called_before : Script → ℕ → ℕ → List Entry → ℕ → Bool
 has_called_before s q time past thread = nat_le (count_by (λ t. nat_lt t time) (times_on s q thread)) (length (entries_by thread past))
 
-abbrev pub comes_in_order : Script → ℕ → List Entry → Entry → Bool
-comes_in_order s q past e =
+unfoldable pub are_in_order : Script → ℕ → List Entry → Bool
+are_in_order s q es = each_behind (λ past e.
     not (nat_lt e.sender s.threads)
     || option_map_or (λ time. list_all (has_called_before s q time past) (range_with_len 0 s.threads))
-    (slice_get (times_on s q e.sender) (length (entries_by e.sender past))) false
-
-unfoldable pub are_in_order : Script → ℕ → List Entry → Bool
-are_in_order s q es = each_behind (comes_in_order s q) [] es
+    (slice_get (times_on s q e.sender) (length (entries_by e.sender past))) false) [] es
 
 -- the controller's calls are in time, and the threads' calls are on time and come in the order of their blocks
 pub record IsTimely (s : Script) (r : QueueRecord) : Type 0 where
