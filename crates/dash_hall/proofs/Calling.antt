@@ -19,7 +19,7 @@ use Rattle.queue_state.specs.Looks.{as_barrier}
 use Rattle.queue_state.specs.Queue.{moment_at}
 use Rattle.shared_queue.specs.Calls.{BarrierPostedBy, BarrierGoneBy, QuitBy}
 use Rattle.looper_run.specs.Holding.{Sender, State}
-use Rattle.run_model.specs.Asks.{plain}
+use Rattle.run_model.specs.Planned.{plain}
 use Rattle.handler_post.specs.declared.way.Sent.{Sent}
 use Rattle.handler_post.specs.declared.way.Sent.TheVariants.{Accepted as Took, Refused as Turned, NoMemory as NoRoom}
 use Rattle.handler_post.specs.declared.way.Erased.{Erased}

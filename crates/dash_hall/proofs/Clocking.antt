@@ -24,9 +24,8 @@ use Rattle.shared_queue.specs.Known.{IsTurn}
 use Rattle.looper_run.specs.Holding.{Sender, State}
 use Rattle.looper_run.proofs.Working.{first_all}
 use Rattle.looper_run.proofs.Turning.{IsOther, found}
-use Rattle.run_model.specs.Asks.{plain, entries_by}
+use Rattle.run_model.specs.Planned.{plain, entries_by, IsNoEarlier}
 use Rattle.run_model.specs.Moments.{Mode, IfFree, IsMoment, has_moment, IsOfClock, AreOfClockAfter}
-use Rattle.run_model.specs.Planned.{IsNoEarlier}
 use Rattle.dash_hall.specs.declared.calls.QueueCall.{QueueCall}
 use Rattle.dash_hall.specs.declared.calls.QueueCall.TheVariants as on_queue
 use Rattle.dash_hall.specs.Growth.{own, Makes, BarsOf, QuitsOf}

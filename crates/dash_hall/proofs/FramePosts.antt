@@ -31,10 +31,8 @@ use Rattle.choreographer.specs.Known.{Known as Pass, IsTurn}
 use Rattle.choreographer.specs.Steps.{known_by, posts_at}
 use Rattle.choreographer.specs.Calls.{due_at, with_post}
 use Rattle.choreographer.proofs.Recorded.{turn_records}
-use Rattle.run_model.specs.Asks.{plain, token_in, entries_by}
-use Rattle.run_model.specs.Planned.{frame_due}
-use Rattle.run_model.specs.FrameRuns.{nanos_of}
-use Rattle.run_model.specs.FrameAsks.{FrameAsk, Posts, Removes, Runs, asked_in, asks_in, as_told}
+use Rattle.run_model.specs.Planned.{plain, token_in, entries_by, frame_due}
+use Rattle.run_model.specs.FrameRecords.{nanos_of, FrameAsk, Posts, Removes, Runs, asked_in, asks_in, as_told}
 use Rattle.loop_model.proofs.Options.{none_is}
 use Rattle.dash_hall.specs.Growth.{own, GoesOn, Makes}
 use Rattle.dash_hall.specs.Hosts.{is_sending, not_sent, sent_as, told_by, sends_by, AsksFor, PlacesBy, PostsFrame}

@@ -14,7 +14,7 @@ use Rattle.looper_run.specs.Holding.{Sender, State}
 use Rattle.looper_run.specs.Acts.{IsNoLookOf}
 use Rattle.looper_run.proofs.Working.{first_all}
 use Rattle.looper_run.proofs.Turning.{IsOther, found, all_first, no_looks}
-use Rattle.run_model.specs.Asks.{plain, token_in, entries_by}
+use Rattle.run_model.specs.Planned.{plain, token_in, entries_by}
 use Rattle.handler_post.specs.Ways.{MadeNone}
 use Rattle.dash_hall.specs.Slots.{GivesBackAll, KeepsSlots}
 use Rattle.dash_hall.specs.Growth.{own, GoesOn, TurnsOnce, Makes}

@@ -13,7 +13,7 @@ use Rattle.loop_model.specs.Lists.{longer}
 use Rattle.shared_queue.specs.Known.{Shared, IsOf, IsSamePoster}
 use Rattle.loop_model.proofs.Prefixes.{prefix_self, prefix_trans, prefix_all, longer_first, longer_second}
 use Rattle.shared_queue.proofs.Prefixes.{made_in-append}
-use Rattle.run_model.specs.Asks.{entries_by}
+use Rattle.run_model.specs.Planned.{entries_by}
 use Rattle.looper_run.specs.Holding.{Sender}
 use Rattle.dash_hall.specs.Kits.{badge_of}
 use Rattle.dash_hall.specs.Hearing.{HasHeard, HaveHeard, HaveHeardAt, AreKept, AreReady, AreKnown, HaveSeenAt, HaveSeenAll, seen_by}

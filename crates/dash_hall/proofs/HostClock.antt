@@ -16,7 +16,7 @@ use Rattle.queue_state.specs.Queue.{entry_of, moment_at}
 use Rattle.shared_queue.specs.Constants.{Constants}
 use Rattle.looper_run.specs.Holding.{Sender}
 use Rattle.looper_run.proofs.Turning.{found}
-use Rattle.run_model.specs.Asks.{plain, entries_by}
+use Rattle.run_model.specs.Planned.{plain, entries_by}
 use Rattle.run_model.specs.Moments.{Mode, IfFree, IsMoment, has_moment, IsOfClock, AreOfClockAfter}
 use Rattle.handler_post.specs.declared.way.Sent.{Sent}
 use Rattle.handler_post.specs.declared.way.Sent.TheVariants.{Accepted as Took, Refused as Turned, NoMemory as NoRoom}

@@ -18,7 +18,7 @@ use Rattle.choreographer.specs.Host.{sent_by}
 use Rattle.choreographer.specs.declared.hosted.Placed.{Placed}
 use Rattle.choreographer.specs.Known.{Known as Pass}
 use Rattle.choreographer.specs.Calls.{PostedBy as CallbackPostedBy}
-use Rattle.run_model.specs.FrameRuns.{nanos_of}
+use Rattle.run_model.specs.FrameRecords.{nanos_of}
 use Rattle.handler_post.specs.declared.way.Sent.{Sent}
 use Rattle.handler_post.specs.declared.way.Sent.TheVariants.{Accepted as Took, Refused as Turned, NoMemory as NoRoom}
 use Rattle.handler_post.specs.Supply.{letter_of}

@@ -4,7 +4,8 @@ use Rattle.atomic_table.specs.Seated.{TableId}
 use Rattle.loop_model.specs.declared.entry.Entry.{Entry}
 use Rattle.shared_queue.specs.Constants.{Constants}
 use Rattle.looper_run.specs.Holding.{Sender}
-use Rattle.run_model.specs.Moments.{Mode, IfFree, IsMoment, AreOfClock, AreOfClockAfter}
+use Rattle.run_model.specs.Moments.{Mode, IfFree, IsMoment, AreOfClockAfter}
+use Rattle.run_model.specs.Parts.{AreOfClock}
 
 -- the entry is this sender's
 abbrev pub is_by : ℕ → Entry → Bool

@@ -12,7 +12,7 @@ use Rattle.shared_queue.specs.Calls.{BarrierPostedBy, QuitBy}
 use Rattle.handler_post.specs.Supply.{BringsBack}
 use Rattle.looper_run.specs.Holding.{Sender}
 use Rattle.looper_run.specs.Acts.{IsNoLookOf}
-use Rattle.run_model.specs.Asks.{plain, token_in, entries_by}
+use Rattle.run_model.specs.Planned.{plain, token_in, entries_by}
 use Rattle.handler_post.specs.Ways.{KeptWay as Way, IsReady, IsSameWay, MadeNone}
 use Rattle.dash_hall.specs.Slots.{LosesNoSlot}
 

@@ -17,8 +17,7 @@ use Rattle.choreographer.specs.declared.hosted.Placed.TheVariants as placed
 use Rattle.choreographer.specs.Known.{Known as Pass}
 use Rattle.choreographer.specs.Calls.{PostedBy as CallbackPostedBy}
 use Rattle.run_model.specs.Planned.{frame_due}
-use Rattle.run_model.specs.FrameRuns.{nanos_of}
-use Rattle.run_model.specs.FrameAsks.{FrameAsk, Posts, asks_in}
+use Rattle.run_model.specs.FrameRecords.{nanos_of, FrameAsk, Posts, asks_in}
 use Rattle.dash_hall.specs.declared.host.Host.{Host}
 use Rattle.dash_hall.specs.Growth.{own, GoesOn, Makes}
 use Rattle.dash_hall.specs.ByClock.{AddsAt}

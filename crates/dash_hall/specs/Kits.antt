@@ -12,7 +12,7 @@ use Rattle.shared_queue.specs.Known.{Shared}
 use Rattle.looper_run.specs.Holding.{Sender}
 use Rattle.choreographer.specs.declared.view.Constants.{Constants as FrameConstants}
 use Rattle.choreographer.specs.Known.{Shared as Frames, Known as Pass}
-use Rattle.run_model.specs.Senders.{sender_count}
+use Rattle.run_model.specs.Planned.{sender_count}
 use Rattle.dash_hall.specs.declared.hall.Hall.{Hall}
 use Rattle.dash_hall.specs.declared.kit.Kit.{Kit}
 

@@ -1,6 +1,6 @@
 -- The moments of a clock in nanoseconds, as a test.
 use Rattle.std.specs.Prelude.{ℕ, zero, suc, ◌-◌, ◌^◌, ◌==◌, Bool, false, ◌&&◌, ◌||◌}
-use Rattle.run_model.specs.FrameRuns.{nanos_of}
+use Rattle.run_model.specs.FrameRecords.{nanos_of}
 
 -- whether a number below this one passes the test
 unfoldable pub has_below : ℕ → (ℕ → Bool) → Bool

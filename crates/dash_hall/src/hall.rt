@@ -1,8 +1,8 @@
 //! What the senders of a run share.
 ghost use Rattle.std.specs.Prelude.{◌≡◌, ◌<◌, ◌+◌, [], ◌∷◌, map, length, All, IfOk, OnOk};
-ghost use Rattle.run_model.specs.Senders.{sender_count};
 ghost use Rattle.dash_hall.specs.Kits.{AreQueuesOf, AreChoreographersOf, queue_constants, frame_constants, badge_for, frames_for};
 ghost use Rattle.dash_hall.specs.Dealing.{IsEmptyKit, EachGets, nothing, DealsPosters, DealsPasses, given_of, holder_of, HasCountedNothing, IsNewHall};
+ghost use Rattle.run_model.specs.Planned.{sender_count};
 
 use crate::kit::Kit;
 use crate::stop::Stop;

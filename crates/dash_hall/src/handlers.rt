@@ -1,6 +1,6 @@
 //! The handlers of a script, and the calls that they make.
 ghost use Rattle.std.specs.Prelude.{◌≡◌, ◌<◌, ◌+◌, true, [], OnOk, OnErr};
-ghost use Rattle.run_model.specs.Senders.{looper_of as the_looper_of, gauge_handler as the_gauge_handler, handler_line};
+ghost use Rattle.run_model.specs.Planned.{looper_of as the_looper_of, gauge_handler as the_gauge_handler, handler_line};
 ghost use Rattle.handler_post.specs.Ways.{IsReady};
 ghost use Rattle.dash_hall.specs.Growth.{WayCalled, no_token};
 ghost use Rattle.dash_hall.specs.Requests.{call_by, IfSent, IfErased};

@@ -1,6 +1,6 @@
 //! What a host's clock shows.
 ghost use Rattle.std.specs.Prelude.{◌≡◌, ◌==◌, ℕ, Bool, true};
-ghost use Rattle.run_model.specs.FrameRuns.{nanos_of};
+ghost use Rattle.run_model.specs.FrameRecords.{nanos_of};
 
 /// The uptime of a host, which it reads anew each time that it is asked for.
 pub trait Uptime {

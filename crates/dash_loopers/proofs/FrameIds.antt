@@ -25,9 +25,9 @@ use Rattle.choreographer.specs.Frame.{Batch, begin_place, ran_since, batches_sin
 use Rattle.choreographer.specs.Done.{runs, runs_of, numbers_of, AreBatches, AddsFrame, FramedBy, RecordsBy, UnlessNoMemory}
 use Rattle.choreographer.proofs.Recorded.{frame_tells}
 use Rattle.loop_model.proofs.Prefixes.{prefix_trans, prefix_length}
-use Rattle.run_model.specs.FrameRuns.{frame_ids, is_frame_from, begins_with, has_stamp, is_begin, posted_id, ran_id, moment_in, frame_moments}
+use Rattle.run_model.specs.FrameRecords.{frame_ids, is_frame_from, begins_with, has_stamp, is_begin, posted_id, ran_id, moment_in, frame_moments, Runs}
+use Rattle.run_model.specs.FrameRecords.{asked_in, asks_in}
 use Rattle.run_model.proofs.FrameKeeping.{all-reverse, all-in_due_order, posted_in, posted-reverse, before_first-step, told_before, KeepsFrames-lawful}
-use Rattle.run_model.specs.FrameAsks.{Runs, asked_in, asks_in}
 use Rattle.dash_hall.specs.Hosts.{asks_of}
 use Rattle.dash_loopers.specs.Played.{RanFrame, ids_of}
 use Rattle.dash_loopers.proofs.LooperLists.{at_seam}

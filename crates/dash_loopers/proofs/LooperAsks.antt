@@ -10,9 +10,8 @@ use Rattle.loop_model.proofs.Sorting.{AllByRecursion-weaker, AllByRecursion-appe
 use Rattle.loop_model.proofs.WellFormedLaws.{All_recursive}
 use Rattle.dash_script.specs.declared.script.Script.{Script}
 use Rattle.run_model.specs.Loopers.{Looper}
-use Rattle.run_model.specs.FrameRuns.{FrameAt, nanos_of}
-use Rattle.run_model.specs.FrameAsks.{FrameAsk, Posts, Removes, Runs, asks_to_run, as_told}
-use Rattle.run_model.specs.FrameTurns.{asked_for}
+use Rattle.run_model.specs.FrameRecords.{FrameAt, nanos_of, FrameAsk, Posts, Removes, Runs, as_told, asked_for}
+use Rattle.run_model.specs.Parts.{asks_to_run}
 use Rattle.run_model.proofs.AskedInTurn.{due_at_once, frames_at_once}
 use Rattle.dash_hall.specs.Hosts.{asks_of}
 use Rattle.dash_hall.proofs.FramePosts.{told_whole}

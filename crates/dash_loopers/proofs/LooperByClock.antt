@@ -19,7 +19,7 @@ use Rattle.looper_run.specs.Holding.{Sender, Holding}
 use Rattle.looper_run.specs.Tests.{Passes, PassesWith, IsLent, IsTake, HasTaken, Unless}
 use Rattle.looper_run.specs.declared.dispatcher.Did.{Did}
 use Rattle.looper_run.specs.declared.dispatcher.Did.TheVariants.{Yes, No, NoMemory}
-use Rattle.run_model.specs.Senders.{frame_handler}
+use Rattle.run_model.specs.Planned.{frame_handler}
 use Rattle.run_model.specs.Loopers.{Looper}
 use Rattle.dash_loopers.specs.declared.player.Parts.{Parts}
 use Rattle.dash_loopers.specs.declared.looper.StageLooper.{StageLooper}

@@ -18,7 +18,7 @@ use Rattle.choreographer.specs.Host.{sent_by}
 use Rattle.choreographer.specs.Known.{Known as Pass}
 use Rattle.choreographer.specs.Calls.{PulsedBy}
 use Rattle.run_model.specs.Moments.{Mode, has_moment}
-use Rattle.run_model.specs.Senders.{frame_handler}
+use Rattle.run_model.specs.Planned.{frame_handler}
 use Rattle.dash_hall.specs.Growth.{own, GoesOn, Makes}
 use Rattle.dash_hall.specs.Hosts.{HostOrigin, IsHost, sends_by}
 use Rattle.dash_hall.specs.ByClock.{AddsByClock, AddsAt}

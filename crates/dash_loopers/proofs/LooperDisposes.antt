@@ -18,7 +18,7 @@ use Rattle.looper_run.specs.Looks.{HasDispatched, HasIdled, EndsBy, HasEnded, Lo
 use Rattle.looper_run.specs.Round.{is_ended}
 use Rattle.looper_run.proofs.Turning.{IsOther, found}
 use Rattle.looper_run.proofs.Working.{first_all}
-use Rattle.run_model.specs.Asks.{entries_by}
+use Rattle.run_model.specs.Planned.{entries_by}
 use Rattle.run_model.proofs.RunLaws.{entries_by-append, entries_by-own}
 use Rattle.dash_loopers.specs.Loopers.{is_disposal, calls_among, DisposesLast, DisposesAtEnd, is_given_up}
 

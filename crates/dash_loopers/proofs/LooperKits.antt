@@ -9,7 +9,7 @@ use Rattle.atomic_table.specs.Seated.{TableId}
 use Rattle.dash_script.specs.declared.script.Script.{Script}
 use Rattle.loop_model.specs.Base.{empty_base}
 use Rattle.loop_model.specs.Answers.{is_over}
-use Rattle.run_model.specs.Senders.{sender_count}
+use Rattle.run_model.specs.Planned.{sender_count, entries_by}
 use Rattle.shared_queue.specs.Constants.{Constants}
 use Rattle.shared_queue.specs.Known.{Shared}
 use Rattle.choreographer.specs.Known.{Shared as Frames}
@@ -23,7 +23,6 @@ use Rattle.looper_run.specs.Acts.{taken_by}
 use Rattle.loop_model.specs.Dispatches.{dispatches, call_dispatch}
 use Rattle.loop_model.specs.declared.entry.Entry.{Entry}
 use Rattle.loop_model.specs.declared.journal.Journal.{Journal}
-use Rattle.run_model.specs.Asks.{entries_by}
 use Rattle.looper_run.proofs.Steps.{workplace_same}
 use Rattle.dash_hall.specs.declared.hall.Hall.{Hall}
 use Rattle.dash_hall.specs.declared.kit.Kit.{Kit}

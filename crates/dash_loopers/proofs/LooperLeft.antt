@@ -12,11 +12,10 @@ use Rattle.frame_phases.specs.declared.entry.FrameEntry.{FrameEntry}
 use Rattle.dash_script.specs.declared.script.Script.{Script}
 use Rattle.looper_run.specs.Holding.{Sender}
 use Rattle.choreographer.specs.Known.{Known as Pass}
-use Rattle.run_model.specs.Asks.{AreFor, token_in}
-use Rattle.run_model.specs.Loopers.{Looper, Sent, first_looper}
-use Rattle.run_model.specs.Acts.{Lead, sent_on, IsSent}
-use Rattle.run_model.specs.FrameRuns.{FrameAt, is_whole, are_whole}
-use Rattle.run_model.specs.FrameAsks.{FrameAsk, Runs, as_told, asks_to_run}
+use Rattle.run_model.specs.Planned.{AreFor, token_in}
+use Rattle.run_model.specs.Loopers.{Looper, Sent, first_looper, Lead, IsSent}
+use Rattle.run_model.specs.Parts.{sent_on, is_whole, asks_to_run}
+use Rattle.run_model.specs.FrameRecords.{FrameAt, are_whole, FrameAsk, Runs, as_told}
 use Rattle.dash_hall.specs.declared.hall.Hall.{Hall}
 use Rattle.dash_hall.specs.declared.kit.Kit.{Kit}
 use Rattle.dash_hall.specs.Kits.{IsHall}

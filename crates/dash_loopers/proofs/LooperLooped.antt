@@ -15,7 +15,8 @@ use Rattle.looper_run.specs.Loops.{IsStill, IsLoop, LoopBy, AreLooksBy, UnlessLo
 use Rattle.looper_run.specs.Round.{RoundBy, UnlessWanting, is_ended}
 use Rattle.looper_run.specs.Tests.{IsSameLooper}
 use Rattle.dash_script.specs.declared.script.Script.{Script}
-use Rattle.run_model.specs.Moments.{Mode, in_free_mode}
+use Rattle.run_model.specs.Moments.{Mode}
+use Rattle.run_model.specs.ByClock.{in_free_mode}
 use Rattle.dash_hall.specs.declared.hall.Hall.{Hall}
 use Rattle.dash_hall.specs.Kits.{IsHall}
 use Rattle.dash_loopers.specs.declared.looper.StageLooper.{StageLooper}

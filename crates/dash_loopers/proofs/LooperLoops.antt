@@ -23,7 +23,7 @@ use Rattle.looper_run.specs.Asked.{Listening}
 use Rattle.looper_run.specs.Looks.{by_poster, IsBegun}
 use Rattle.looper_run.specs.Loops.{WorksOn, HasWaitedLong, GoesOn, HasStepped, Stepped, IsLoop, LastWait, LoopBy, is_over as ends}
 use Rattle.looper_run.specs.Round.{is_ended}
-use Rattle.run_model.specs.Asks.{entries_by}
+use Rattle.run_model.specs.Planned.{entries_by}
 use Rattle.dash_loopers.specs.Loopers.{calls_among, DisposesAtEnd, is_given_up, round_of}
 use Rattle.dash_loopers.proofs.LooperDisposes.{Calls, calls_none, calls_then, calls_lent, calls_still, calls_taken, calls_idle, none_now, disposes_last, open_before}
 use Rattle.dash_loopers.proofs.LooperOver.{over_by_end, over_by_over}

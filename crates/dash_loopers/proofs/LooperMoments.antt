@@ -35,7 +35,8 @@ use Rattle.looper_run.specs.Loops.{IsLookBy, AreLooksBy}
 use Rattle.looper_run.proofs.Working.{lent_self}
 use Rattle.looper_run.specs.Tests.{Passes, PassesWith, IsLent, HasTaken, Unless, Intercepts}
 use Rattle.dash_script.specs.declared.script.Script.{Script}
-use Rattle.run_model.specs.Moments.{Mode, in_free_mode, IsMoment, IsOfClock, AreOfClockAfter}
+use Rattle.run_model.specs.Moments.{Mode, IsMoment, IsOfClock, AreOfClockAfter}
+use Rattle.run_model.specs.ByClock.{in_free_mode}
 use Rattle.dash_hall.specs.declared.hall.Hall.{Hall}
 use Rattle.dash_hall.specs.ByClock.{is_by, IsByClock, IsInMode, AddsByClock}
 use Rattle.dash_hall.specs.Uptimes.{is_shown}

@@ -11,9 +11,8 @@ use Rattle.looper_run.specs.Round.{is_ended}
 use Rattle.choreographer.specs.Known.{Known as Pass}
 use Rattle.choreographer.specs.Calls.{AskedBy}
 use Rattle.choreographer.proofs.Recorded.{asked_records}
-use Rattle.run_model.specs.Acts.{millis_up}
+use Rattle.run_model.specs.FrameRecords.{millis_up, asks_in, as_told}
 use Rattle.run_model.specs.Loopers.{Looper}
-use Rattle.run_model.specs.FrameAsks.{asks_in, as_told}
 use Rattle.run_model.specs.Moments.{Mode}
 use Rattle.dash_hall.specs.declared.hall.Hall.{Hall}
 use Rattle.dash_hall.specs.Kits.{IsHall}

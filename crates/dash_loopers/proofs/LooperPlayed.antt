@@ -17,15 +17,15 @@ use Rattle.looper_run.specs.Holding.{Sender, Looping}
 use Rattle.looper_run.specs.Round.{UnlessWanting}
 use Rattle.looper_run.specs.Tests.{Passes, IsSameLooper}
 use Rattle.choreographer.specs.Known.{Known as Pass}
-use Rattle.run_model.specs.Asks.{entries_by, AreFor}
-use Rattle.run_model.specs.Loopers.{Looper, first_looper}
-use Rattle.run_model.specs.Acts.{Lead, sent_on, IsSent}
+use Rattle.run_model.specs.Planned.{entries_by, AreFor}
+use Rattle.run_model.specs.Loopers.{Looper, first_looper, Lead, IsSent}
+use Rattle.run_model.specs.Parts.{sent_on, asks_to_run}
 use Rattle.dash_hall.specs.declared.hall.Hall.{Hall}
 use Rattle.dash_hall.specs.declared.kit.Kit.{Kit}
 use Rattle.dash_hall.specs.Kits.{IsHall, AreUnseen}
 use Rattle.dash_hall.specs.Growth.{own}
 use Rattle.dash_hall.specs.Hosts.{asks_of}
-use Rattle.run_model.specs.FrameAsks.{asks_in, as_told, asks_to_run}
+use Rattle.run_model.specs.FrameRecords.{asks_in, as_told}
 use Rattle.dash_hall.proofs.FramePosts.{told_whole}
 use Rattle.dash_loopers.specs.declared.player.Parts.{Parts}
 use Rattle.dash_loopers.specs.declared.looper.StageLooper.{StageLooper}

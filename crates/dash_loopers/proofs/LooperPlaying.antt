@@ -23,8 +23,7 @@ use Rattle.looper_run.specs.declared.dispatcher.Did.{Did}
 use Rattle.looper_run.specs.declared.dispatcher.Did.TheVariants.{Yes, No, NoMemory}
 use Rattle.loop_model.proofs.Prefixes.{prefix_self}
 use Rattle.run_model.specs.Control.{At}
-use Rattle.run_model.specs.FrameRuns.{FrameAt, nanos_of}
-use Rattle.run_model.specs.FrameAsks.{FrameAsk}
+use Rattle.run_model.specs.FrameRecords.{FrameAt, nanos_of, FrameAsk}
 use Rattle.run_model.specs.Loopers.{Looper, Sent, delivered, starts_frame}
 use Rattle.dash_hall.specs.Hosts.{asks_of}
 use Rattle.dash_loopers.specs.declared.player.Parts.{Parts}
@@ -34,7 +33,7 @@ use Rattle.dash_loopers.specs.PlayingLaws.{goes_nowhere, comes_on}
 use Rattle.dash_loopers.proofs.LooperStands.{stands_pulse, by_dispatch, sends_dispatch, posts_dispatch, frames_dispatch, stands_dispatch}
 use Rattle.dash_loopers.proofs.PlaySteps.{waits_still}
 use Rattle.std.proofs.Math.Bool.{and-false}
-use Rattle.run_model.specs.Senders.{frame_handler}
+use Rattle.run_model.specs.Planned.{frame_handler}
 
 -- ---- calls more, and looks more
 

@@ -4,7 +4,7 @@ use Rattle.std.specs.Prelude.{min}
 use Rattle.std.specs.Option.{option_map}
 use Rattle.std.proofs.lemmas.Grind.{div_ceil_times}
 use Rattle.std.proofs.Math.Nat.{div-eq_of_lt-le}
-use Rattle.run_model.specs.Acts.{millis_up}
+use Rattle.run_model.specs.FrameRecords.{millis_up}
 
 -- a quotient that is rounded up is that of the number and a million less one
 pub rounded_up : (stamp time : ℕ) → time ≡ stamp / 1000000 + min 1 (stamp % 1000000) → millis_up stamp ≡ time

@@ -10,7 +10,8 @@ use Rattle.looper_run.specs.Holding.{Looping}
 use Rattle.looper_run.specs.Loops.{LoopBy}
 use Rattle.looper_run.specs.Round.{is_ended}
 use Rattle.dash_script.specs.declared.script.Script.{Script}
-use Rattle.run_model.specs.Moments.{Mode, in_free_mode}
+use Rattle.run_model.specs.Moments.{Mode}
+use Rattle.run_model.specs.ByClock.{in_free_mode}
 use Rattle.dash_hall.specs.declared.hall.Hall.{Hall}
 use Rattle.dash_hall.specs.Kits.{IsHall, queue_constants}
 use Rattle.dash_loopers.specs.declared.looper.StageLooper.{StageLooper}

@@ -25,11 +25,12 @@ use Rattle.looper_run.specs.Tests.{IsTake}
 use Rattle.loop_model.proofs.Prefixes.{prefix_trans, prefix_length}
 use Rattle.loop_model.specs.Posts.{post_at}
 use Rattle.run_model.specs.Control.{At}
-use Rattle.run_model.specs.Asks.{Makes, plain, token_in, tokens_in, AreFor}
-use Rattle.run_model.specs.Loopers.{Looper, Sent, first_looper, starts_frame, delivered, and_takes, and_starts}
-use Rattle.run_model.specs.Acts.{running, dispatched, after_act, MayDispatch, Lead, sent_on, IsSent}
-use Rattle.run_model.specs.FrameRuns.{FrameAt, nanos_of, frame_ids, is_frame_from, has_stamp, place_after, frames_after, is_run_then, are_run_then, is_whole, are_whole}
-use Rattle.run_model.specs.FrameAsks.{FrameAsk, Runs, asks_to_run, as_told}
+use Rattle.run_model.specs.Planned.{Makes, plain, token_in, AreFor}
+use Rattle.run_model.specs.AskedSoFar.{tokens_in}
+use Rattle.run_model.specs.Loopers.{Looper, Sent, first_looper, starts_frame, delivered, and_takes, dispatched, after_act, MayDispatch, Lead, IsSent}
+use Rattle.run_model.specs.Parts.{and_starts, running, sent_on, is_run_then, is_whole, asks_to_run}
+use Rattle.run_model.specs.FrameRecords.{FrameAt, nanos_of, frame_ids, is_frame_from, has_stamp, place_after, frames_after, are_run_then, are_whole, FrameAsk}
+use Rattle.run_model.specs.FrameRecords.{Runs, as_told}
 use Rattle.run_model.proofs.RunLaws.{AreFor-snoc, Lead-snoc, ArePaints, Lead-paints}
 use Rattle.run_model.proofs.Growth.{Lead-entries, post_at-grows}
 use Rattle.choreographer.specs.Calls.{latest}

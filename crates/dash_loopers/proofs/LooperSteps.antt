@@ -9,13 +9,13 @@ use Rattle.loop_model.specs.declared.journal.Act.{Act}
 use Rattle.loop_model.specs.declared.journal.Act.TheVariants.{Dispatch, Idle, Event, Vsync, Paint}
 use Rattle.loop_model.proofs.Sorting.{AllByRecursion-append}
 use Rattle.dash_script.specs.declared.script.Script.{Script}
-use Rattle.run_model.specs.Senders.{gauge_line, gauge_looper, frame_handler, animation_id, animation_phase, traversal_phase, traversal_id}
+use Rattle.run_model.specs.Planned.{gauge_line, gauge_looper, frame_handler, animation_id, animation_phase, traversal_phase, traversal_id, Makes, frame_due}
 use Rattle.loop_model.specs.declared.call.Call.TheVariants.{Barrier}
-use Rattle.run_model.specs.Asks.{Makes}
-use Rattle.run_model.specs.Planned.{frame_due}
-use Rattle.run_model.specs.FrameAsks.{FrameAsk, Posts}
+use Rattle.run_model.specs.FrameRecords.{FrameAsk, Posts}
 use Rattle.run_model.specs.Control.{At}
-use Rattle.run_model.specs.Loopers.{Looper, Gauge, Sent, with_gauge, and_sends, and_posts_frame, traversal_requested, target_set, object_set, moved, gauge_moved, animation_ran, paints, traversal_ran, callback_ran, fires, reaction, reacted, delivered, and_takes}
+use Rattle.run_model.specs.Loopers.{Looper, Gauge, Sent, with_gauge, and_sends, and_posts_frame, traversal_requested, target_set, object_set, moved}
+use Rattle.run_model.specs.Loopers.{gauge_moved, paints, traversal_ran, callback_ran, fires, reaction, reacted, delivered, and_takes}
+use Rattle.run_model.specs.Parts.{animation_ran}
 use Rattle.run_model.proofs.RunLaws.{ArePaints}
 use Rattle.dash_loopers.specs.Played.{IsDueAt}
 

@@ -11,7 +11,7 @@ use Rattle.looper_run.specs.Holding.{Holding}
 use Rattle.looper_run.specs.declared.looper.Round.{Round}
 use Rattle.looper_run.specs.declared.looper.Round.TheVariants.{Drained, Ended, NoMemory}
 use Rattle.looper_run.specs.Round.{Works, RoundBy}
-use Rattle.run_model.specs.Asks.{entries_by}
+use Rattle.run_model.specs.Planned.{entries_by}
 use Rattle.dash_loopers.specs.Loopers.{is_given_up}
 
 -- what a sender takes is told by its own entries

@@ -10,10 +10,11 @@ use Rattle.loop_model.specs.declared.entry.Entry.{Entry}
 use Rattle.loop_model.specs.Entries.{is_next, is_disposed}
 use Rattle.dash_script.specs.declared.script.Script.{Script}
 use Rattle.looper_run.specs.Holding.{Sender}
-use Rattle.run_model.specs.Asks.{Makes as Asks, AreFor, plain, token_in, tokens_in}
+use Rattle.run_model.specs.Planned.{Makes as Asks, AreFor, plain, token_in}
+use Rattle.run_model.specs.AskedSoFar.{tokens_in}
 use Rattle.run_model.specs.Control.{Timing}
-use Rattle.run_model.specs.Loopers.{Looper, Sent}
-use Rattle.run_model.specs.Acts.{sent_on, IsSent}
+use Rattle.run_model.specs.Loopers.{Looper, Sent, IsSent}
+use Rattle.run_model.specs.Parts.{sent_on}
 use Rattle.run_model.proofs.RunLaws.{AreFor-snoc, sent_on-append}
 use Rattle.dash_hall.specs.Growth.{own, Makes}
 use Rattle.dash_loopers.specs.declared.player.Parts.{Parts}

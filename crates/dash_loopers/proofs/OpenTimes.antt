@@ -7,14 +7,13 @@ use Rattle.std.proofs.lemmas.List.{map-append}
 use Rattle.loop_model.specs.declared.post.Post.{Post as PostData}
 use Rattle.loop_model.specs.declared.call.Call.TheVariants.{Barrier}
 use Rattle.dash_script.specs.declared.script.Script.{Script}
-use Rattle.run_model.specs.Asks.{Ask, Makes, Unbars}
-use Rattle.run_model.specs.Senders.{gauge_line, gauge_looper, frame_handler, animation_id, animation_phase, traversal_id, traversal_phase}
+use Rattle.run_model.specs.Planned.{Ask, Makes, Unbars, gauge_line, gauge_looper, frame_handler, animation_id, animation_phase, traversal_id, traversal_phase}
 use Rattle.run_model.specs.Planned.{frame_due}
 use Rattle.run_model.specs.Control.{At}
-use Rattle.run_model.specs.FrameAsks.{Posts, as_told}
-use Rattle.run_model.specs.FrameRuns.{place_after, frames_after}
-use Rattle.run_model.specs.Loopers.{Looper, Gauge, and_sends, and_posts_frame, with_gauge, traversal_requested, target_set, object_set, moved, gauge_moved, animation_ran, paints, traversal_ran, callback_ran, fires, reaction, reacted, delivered, and_takes, and_starts}
-use Rattle.run_model.specs.Acts.{running}
+use Rattle.run_model.specs.FrameRecords.{Posts, as_told, place_after, frames_after}
+use Rattle.run_model.specs.Loopers.{Looper, Gauge, and_sends, and_posts_frame, with_gauge, traversal_requested, target_set, object_set, moved, gauge_moved}
+use Rattle.run_model.specs.Loopers.{paints, traversal_ran, callback_ran, fires, reaction, reacted, delivered, and_takes}
+use Rattle.run_model.specs.Parts.{animation_ran, and_starts, running}
 use Rattle.dash_loopers.specs.Played.{untimed, unstarted, AreAlike, pulsed}
 
 pub alike_self : (a : Looper) → AreAlike a a

@@ -27,16 +27,16 @@ use Rattle.choreographer.specs.Known.{Known as Pass}
 use Rattle.choreographer.specs.Calls.{PulsedBy, stamp_in}
 use Rattle.loop_model.proofs.Prefixes.{prefix_self}
 use Rattle.frame_phases.specs.State.{delivered as delivered_at}
-use Rattle.run_model.specs.Asks.{Makes as Asks, Unbars, AreFor, tokens_in}
-use Rattle.run_model.specs.Control.{At, NotBefore}
-use Rattle.run_model.specs.Senders.{frame_handler, gauge_line, gauge_looper, animation_id, animation_phase, traversal_id}
+use Rattle.run_model.specs.Planned.{Makes as Asks, Unbars, AreFor, frame_handler, gauge_line, gauge_looper, animation_id, animation_phase, traversal_id}
 use Rattle.run_model.specs.Planned.{frame_message}
-use Rattle.run_model.specs.Loopers.{Looper, Gauge, Sent, and_sends, and_posts_frame, with_gauge, moved, paints, starts_frame, delivered, reacted, object_set, target_set, traversal_requested, traversal_ran, animation_ran, gauge_moved, callback_ran}
-use Rattle.run_model.specs.Acts.{sent_on, IsSent, millis_up}
-use Rattle.run_model.specs.FrameRuns.{nanos_of, place_after}
+use Rattle.run_model.specs.AskedSoFar.{tokens_in}
+use Rattle.run_model.specs.Control.{At, NotBefore}
+use Rattle.run_model.specs.Loopers.{Looper, Gauge, Sent, and_sends, and_posts_frame, with_gauge, moved, paints, starts_frame, delivered, reacted, object_set}
+use Rattle.run_model.specs.Loopers.{target_set, traversal_requested, traversal_ran, gauge_moved, callback_ran, IsSent}
+use Rattle.run_model.specs.Parts.{animation_ran, sent_on}
+use Rattle.run_model.specs.FrameRecords.{millis_up, nanos_of, place_after, asks_in}
 use Rattle.dash_hall.specs.Growth.{own, GoesOn, Makes}
 use Rattle.dash_hall.specs.Hosts.{HostOrigin, IsHost, sends_by, asks_of}
-use Rattle.run_model.specs.FrameAsks.{asks_in}
 use Rattle.choreographer.proofs.Recorded.{pulse_records}
 use Rattle.dash_loopers.specs.declared.view_root.Painted.{Painted}
 use Rattle.dash_loopers.specs.declared.view_root.ViewRoot.{ViewRoot}

@@ -17,12 +17,12 @@ use Rattle.dash_script.specs.declared.script.Rule.{Rule}
 use Rattle.dash_script.specs.declared.script.Script.{Script}
 use Rattle.looper_run.specs.Holding.{Sender}
 use Rattle.handler_post.specs.declared.handler.Handler.{Handler}
-use Rattle.run_model.specs.Asks.{Makes as Asks, AreFor, plain, tokens_in}
+use Rattle.run_model.specs.Planned.{Makes as Asks, AreFor, plain, looper_of, handler_line}
+use Rattle.run_model.specs.AskedSoFar.{tokens_in}
 use Rattle.run_model.specs.Control.{Timing, At}
-use Rattle.run_model.specs.Senders.{looper_of, handler_line}
 use Rattle.loop_model.specs.Posts.{moment_after}
-use Rattle.run_model.specs.Loopers.{Looper, Sent, fires, reaction, reacted}
-use Rattle.run_model.specs.Acts.{sent_on, IsSent}
+use Rattle.run_model.specs.Loopers.{Looper, Sent, fires, reaction, reacted, IsSent}
+use Rattle.run_model.specs.Parts.{sent_on}
 use Rattle.run_model.proofs.RunLaws.{AreFor-snoc}
 use Rattle.dash_hall.specs.declared.handlers.Request.{Request}
 use Rattle.dash_hall.specs.declared.handlers.Request.TheVariants as request

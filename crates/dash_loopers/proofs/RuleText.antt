@@ -13,7 +13,7 @@ use Rattle.dash_script.specs.Text.{handler_line, rule_line}
 use Rattle.dash_script.specs.Causes.{each_number, numbers_pass, is_declared}
 use Rattle.dash_script.specs.Reading.{HasText}
 use Rattle.dash_script.proofs.Sections.{sections_pass}
-use Rattle.run_model.specs.Senders.{looper_of}
+use Rattle.run_model.specs.Planned.{looper_of}
 
 looper_within : (s : Script) (h looper : ℕ) (asynchronous : Bool) → numbers_pass (is_declared s) (handler_line (h, record { looper = looper; asynchronous = asynchronous })) ≡ true → nat_lt looper s.loopers ≡ true
 unfolding each_number

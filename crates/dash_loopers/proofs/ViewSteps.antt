@@ -16,17 +16,18 @@ use Rattle.dash_script.specs.declared.script.Script.{Script}
 use Rattle.dash_script.specs.Reading.{HasText}
 use Rattle.looper_run.specs.Holding.{Sender}
 use Rattle.choreographer.specs.Known.{Known as Pass}
-use Rattle.run_model.specs.Asks.{Ask, Makes as Asks, Unbars, plain, call_of, tokens_in, AreFor}
+use Rattle.run_model.specs.Planned.{Ask, Makes as Asks, Unbars, plain, call_of, AreFor, looper_of, gauge_line, gauge_looper, animation_id, animation_phase}
+use Rattle.run_model.specs.Planned.{traversal_id, traversal_phase, frame_due}
+use Rattle.run_model.specs.AskedSoFar.{tokens_in}
 use Rattle.run_model.specs.Control.{At}
-use Rattle.run_model.specs.Senders.{looper_of, gauge_line, gauge_looper, animation_id, animation_phase, traversal_id, traversal_phase}
-use Rattle.run_model.specs.Loopers.{Looper, Gauge, Sent, and_sends, and_posts_frame, with_gauge, traversal_requested, target_set, object_set, gauge_moved, animation_ran, moved, paints, traversal_ran, callback_ran}
-use Rattle.run_model.specs.Acts.{sent_on, IsSent}
+use Rattle.run_model.specs.Loopers.{Looper, Gauge, Sent, and_sends, and_posts_frame, with_gauge, traversal_requested, target_set, object_set, gauge_moved}
+use Rattle.run_model.specs.Loopers.{moved, paints, traversal_ran, callback_ran, IsSent}
+use Rattle.run_model.specs.Parts.{animation_ran, sent_on}
 use Rattle.run_model.proofs.RunLaws.{AreFor-snoc}
 use Rattle.message_pool.specs.Passes.{Tally}
 use Rattle.dash_hall.specs.Growth.{Makes, GoesOn}
 use Rattle.dash_hall.specs.Hosts.{PostsFrame, PlacesBy, sends_by, asks_of}
-use Rattle.run_model.specs.FrameAsks.{FrameAsk, Posts}
-use Rattle.run_model.specs.Planned.{frame_due}
+use Rattle.run_model.specs.FrameRecords.{FrameAsk, Posts}
 use Rattle.dash_hall.proofs.FramePosts.{posts_frame_by}
 use Rattle.dash_loopers.specs.declared.view_root.Gauge.{Gauge as ViewGauge}
 use Rattle.dash_loopers.specs.declared.view_root.Painted.{Painted}

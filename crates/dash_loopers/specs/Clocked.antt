@@ -6,7 +6,7 @@ use Rattle.loop_model.specs.declared.journal.Act.{Act}
 use Rattle.loop_model.specs.Entries.{is_next}
 use Rattle.dash_script.specs.declared.script.Script.{Script}
 use Rattle.looper_run.specs.Holding.{Sender, Workplace}
-use Rattle.run_model.specs.Senders.{frame_handler}
+use Rattle.run_model.specs.Planned.{frame_handler}
 use Rattle.run_model.specs.Moments.{Mode, AreOfClockAfter}
 use Rattle.dash_hall.specs.ByClock.{IsByClock, AddsByClock, AddsAt}
 use Rattle.dash_hall.specs.declared.hall.Hall.{Hall}

@@ -10,8 +10,9 @@ use Rattle.looper_run.specs.declared.by_clock.Loop.TheVariants as loop
 use Rattle.looper_run.specs.Holding.{Looping, workplace}
 use Rattle.looper_run.specs.Loops.{LoopBy}
 use Rattle.looper_run.specs.Round.{is_ended}
-use Rattle.run_model.specs.Acts.{millis_up}
-use Rattle.run_model.specs.Moments.{Mode, in_free_mode}
+use Rattle.run_model.specs.FrameRecords.{millis_up}
+use Rattle.run_model.specs.Moments.{Mode}
+use Rattle.run_model.specs.ByClock.{in_free_mode}
 use Rattle.dash_hall.specs.declared.hall.Hall.{Hall}
 use Rattle.dash_hall.specs.declared.timer.Timer.{Timer}
 use Rattle.dash_loopers.specs.declared.by_clock.ClockPlayer.{ClockPlayer}

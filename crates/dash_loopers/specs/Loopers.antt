@@ -19,8 +19,7 @@ use Rattle.looper_run.specs.Acts.{taken_by}
 use Rattle.loop_model.specs.Dispatches.{dispatches}
 use Rattle.loop_model.specs.declared.journal.Journal.{Journal}
 use Rattle.dash_hall.specs.declared.kit.Kit.{Kit}
-use Rattle.run_model.specs.Senders.{sender_count}
-use Rattle.run_model.specs.Asks.{entries_by}
+use Rattle.run_model.specs.Planned.{sender_count, entries_by}
 use Rattle.looper_run.specs.declared.looper.Round.{Round}
 use Rattle.looper_run.specs.declared.looper.Round.TheVariants as round
 use Rattle.looper_run.specs.declared.by_clock.Loop.{Loop}

@@ -7,9 +7,10 @@ use Rattle.looper_run.specs.Holding.{workplace, held}
 use Rattle.choreographer.specs.declared.hosted.Pulse.{Pulse}
 use Rattle.choreographer.specs.Known.{Shared as Frames, Known as Pass}
 use Rattle.choreographer.specs.Calls.{PulsedBy, DueBy}
-use Rattle.run_model.specs.FrameRuns.{nanos_of}
-use Rattle.run_model.specs.Loopers.{Looper, callback_ran, animation_ran, paints}
-use Rattle.run_model.specs.Senders.{frame_handler}
+use Rattle.run_model.specs.FrameRecords.{nanos_of}
+use Rattle.run_model.specs.Loopers.{Looper, callback_ran, paints}
+use Rattle.run_model.specs.Parts.{animation_ran}
+use Rattle.run_model.specs.Planned.{frame_handler}
 use Rattle.dash_hall.specs.declared.host.Host.{Host}
 use Rattle.dash_hall.specs.Hosts.{sends_by}
 use Rattle.dash_script.specs.declared.script.Script.{Script}
@@ -18,7 +19,8 @@ use Rattle.dash_loopers.specs.declared.player.Parts.{Parts}
 use Rattle.dash_loopers.specs.declared.player.Place.{Place}
 use Rattle.dash_loopers.specs.declared.view_root.ViewRoot.{ViewRoot}
 use Rattle.dash_loopers.specs.Players.{ServesAt}
-use Rattle.dash_loopers.specs.Played.{calls_of, ids_of, standing, fixed, fixed_by, paint_of, RanFrame, EndsLatest, Shows, Plays, Delivers, DeliversPulse, Pulses}
+use Rattle.dash_loopers.specs.Played.{calls_of, ids_of, standing, fixed, fixed_by, paint_of, RanFrame, EndsLatest, Shows, Plays, Delivers, DeliversPulse}
+use Rattle.dash_loopers.specs.Played.{Pulses}
 use Rattle.choreographer.specs.declared.frame.Framed.{Framed}
 use Rattle.choreographer.specs.declared.frame.Framed.TheVariants as framed
 

@@ -1,6 +1,7 @@
 -- What a looper has come to, told by what it works with: the calls and the frame callbacks that its acts cause are made, and
 -- its gauges, its barrier and its rule counts stand as its acts lead to.
-use Rattle.std.specs.Prelude.{◌≡◌, ◌≢◌, ◌<◌, ◌≤◌, ◌==◌, ◌||◌, ◌&&◌, ℕ, Bool, true, false, not, cond, All, List, [], ◌∷◌, ◌++◌, map, length, slice_get, slice_set}
+use Rattle.std.specs.Prelude.{◌≡◌, ◌≢◌, ◌<◌, ◌≤◌, ◌==◌, ◌||◌, ◌&&◌, ℕ, Bool, true, false, not, cond, All, List, [], ◌∷◌, ◌++◌, map, length, slice_get}
+use Rattle.std.specs.Prelude.{slice_set}
 use Rattle.std.specs.Prelude.{slice_index_or, Option, Some, None, is_some, is_none, IsSomeAnd, if◌then◌else◌, ◌+◌, ◌/◌}
 use Rattle.std.specs.List.{Contains, list_all}
 use Rattle.std.specs.Option.{option_map_or}
@@ -27,14 +28,13 @@ use Rattle.choreographer.specs.Calls.{latest}
 use Rattle.choreographer.specs.declared.host.HostSent.TheVariants as host
 use Rattle.choreographer.specs.declared.hosted.Pulse.{Pulse}
 use Rattle.choreographer.specs.Client.{Run}
-use Rattle.run_model.specs.Asks.{Makes, AreFor, tokens_in, entries_by}
-use Rattle.run_model.specs.Senders.{looper_of}
-use Rattle.run_model.specs.Planned.{frame_message, frame_due}
+use Rattle.run_model.specs.Planned.{Makes, AreFor, entries_by, looper_of, frame_message, frame_due}
+use Rattle.run_model.specs.AskedSoFar.{tokens_in}
 use Rattle.run_model.specs.Control.{Timing, At, InBlock, NotBefore}
-use Rattle.run_model.specs.Loopers.{Looper, Gauge, Sent, first_looper, starts_frame, delivered, fires, reaction}
-use Rattle.run_model.specs.Acts.{Lead, sent_on, IsSent, millis_up}
-use Rattle.run_model.specs.FrameRuns.{FrameAt, frame_ids, is_frame_from, has_stamp, frame_moments, place_after, are_run_then, are_whole}
-use Rattle.run_model.specs.FrameAsks.{FrameAsk, Posts, Removes, Runs, asks_to_run, as_told}
+use Rattle.run_model.specs.Loopers.{Looper, Gauge, Sent, first_looper, starts_frame, delivered, fires, reaction, Lead, IsSent}
+use Rattle.run_model.specs.Parts.{sent_on, asks_to_run}
+use Rattle.run_model.specs.FrameRecords.{millis_up, FrameAt, frame_ids, is_frame_from, has_stamp, frame_moments, place_after, are_run_then, are_whole, FrameAsk}
+use Rattle.run_model.specs.FrameRecords.{Posts, Removes, Runs, as_told}
 use Rattle.dash_hall.specs.declared.kit.Kit.{Kit}
 use Rattle.dash_loopers.specs.declared.view_root.Gauge.{Gauge as ViewGauge}
 use Rattle.dash_loopers.specs.declared.view_root.Painted.{Painted}

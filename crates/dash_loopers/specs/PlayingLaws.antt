@@ -11,16 +11,16 @@ use Rattle.loop_model.specs.declared.journal.Act.{Act}
 use Rattle.loop_model.specs.declared.journal.Act.TheVariants.{Dispatch, Idle, Event, Vsync, Paint}
 use Rattle.dash_script.specs.declared.script.Script.{Script}
 use Rattle.looper_run.specs.Acts.{IsQuiet}
-use Rattle.run_model.specs.Asks.{entries_by}
+use Rattle.run_model.specs.Planned.{entries_by}
 use Rattle.run_model.specs.Control.{Timing, At, InBlock, NotBefore}
-use Rattle.run_model.specs.FrameRuns.{FrameAt}
-use Rattle.run_model.specs.Loopers.{Looper, first_looper}
-use Rattle.run_model.specs.Acts.{after_act}
+use Rattle.run_model.specs.FrameRecords.{FrameAt}
+use Rattle.run_model.specs.Loopers.{Looper, first_looper, after_act}
 use Rattle.run_model.proofs.RunLaws.{Lead-snoc}
 use Rattle.run_model.proofs.Growth.{Lead-entries}
 use Rattle.dash_loopers.specs.declared.player.Parts.{Parts}
 use Rattle.dash_loopers.specs.declared.looper.StageLooper.{StageLooper}
-use Rattle.dash_loopers.specs.Played.{is_disposal, calls_in, IsPlayed, StandsBy, Stands, IsTimedBy, HasLooked, IsPostedBy, GoesOnTo, ComesTo, IsPlaying, IsPlayingBy}
+use Rattle.dash_loopers.specs.Played.{is_disposal, calls_in, IsPlayed, StandsBy, Stands, IsTimedBy, HasLooked, IsPostedBy, GoesOnTo, ComesTo, IsPlaying}
+use Rattle.dash_loopers.specs.Played.{IsPlayingBy}
 
 -- ---- the calls of a sender, as entries are added
 

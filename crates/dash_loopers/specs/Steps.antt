@@ -8,7 +8,7 @@ use Rattle.looper_run.specs.Holding.{Sender, Workplace, held, IsSameOwn}
 use Rattle.looper_run.specs.Tests.{IsLent}
 use Rattle.looper_run.specs.Acts.{IsOfDispatcher, GrowsBy}
 use Rattle.choreographer.specs.Known.{Shared as Frames, Known as Pass, IsOf}
-use Rattle.run_model.specs.Senders.{frame_handler}
+use Rattle.run_model.specs.Planned.{frame_handler}
 use Rattle.dash_script.specs.declared.script.Script.{Script}
 use Rattle.dash_hall.specs.declared.hall.Hall.{Hall}
 use Rattle.dash_hall.specs.declared.host.Host.{Host}

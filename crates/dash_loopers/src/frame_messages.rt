@@ -5,7 +5,7 @@ ghost use Rattle.dash_loopers.specs.Clocked.{CallsUntimed};
 ghost use Rattle.dash_script.specs.Causes.{phase_count};
 ghost use Rattle.dash_loopers.specs.Played.{paint_of, IsNextPulse};
 ghost use Rattle.loop_model.specs.declared.post.Post.{Post as PostData};
-ghost use Rattle.run_model.specs.Senders.{frame_handler as the_frame_handler};
+ghost use Rattle.run_model.specs.Planned.{frame_handler as the_frame_handler};
 ghost use Rattle.run_model.specs.Loopers.{starts_frame, object_set};
 ghost use Rattle.looper_run.specs.Tests.{Unless};
 ghost use Rattle.choreographer.specs.declared.host.HostSent.TheVariants.{NoMemory as NoRoom};

@@ -7,7 +7,7 @@ ghost use Rattle.dash_loopers.specs.Clocked.{DeliversAt};
 ghost use Rattle.dash_loopers.specs.Loopers.{IsLooperOf};
 ghost use Rattle.dash_loopers.specs.Players.{Owner, ServesAt};
 ghost use Rattle.dash_loopers.specs.Played.{IsPlaying};
-ghost use Rattle.run_model.specs.Senders.{frame_handler as the_frame_handler};
+ghost use Rattle.run_model.specs.Planned.{frame_handler as the_frame_handler};
 ghost use Rattle.looper_run.specs.declared.dispatcher.Did.TheVariants.{Yes};
 ghost use Rattle.dash_loopers.specs.PlayingLaws.{playing_others, playing_disposed, playing_quiet};
 ghost use Rattle.dash_loopers.specs.Places.{ServesOn, DeliversOn};

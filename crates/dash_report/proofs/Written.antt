@@ -16,7 +16,7 @@ use Rattle.loop_model.specs.Fates.{fates, is_dispatched, is_removed, is_dropped,
 use Rattle.fate_ledger.proofs.Parts.{entries_taken}
 use Rattle.frame_phases.specs.declared.entry.FrameEntry.{FrameEntry}
 use Rattle.frame_phases.specs.declared.entry.FrameRecord.{FrameRecord}
-use Rattle.run_model.specs.Histories.{history_of}
+use Rattle.run_model.specs.Planned.{history_of}
 use Rattle.run_model.specs.Text.{Words, history_lines, fates_line, act_lines, frame_lines, looper_lines, loopers_lines, line_text}
 use Rattle.run_model.specs.Summary.{accepted_in, dispatched_in, frames_in, paints_in, summary, summary_lines}
 use Rattle.run_model.specs.declared.report.Report.{Report}

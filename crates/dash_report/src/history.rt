@@ -3,7 +3,8 @@ ghost use Rattle.std.specs.Prelude.{◌≡◌, ◌++◌, Some, IfOk, OnOk, slice
 ghost use Rattle.std.specs.List.{join_with_byte, flat_map};
 ghost use Rattle.loop_model.specs.Chain.{entries_of};
 ghost use Rattle.loop_model.specs.Posts.{accepted_post, accepted_posts};
-ghost use Rattle.run_model.specs.Text.{subject, dispatch_words, call_lines, history_lines, line_text};
+ghost use Rattle.run_model.specs.Text.{subject, call_lines, history_lines, line_text};
+ghost use Rattle.run_model.specs.Parts.{dispatch_words};
 
 use loop_model::{Call, Entry, NoMemory, Post, Reply, Segment};
 use std::alloc::Global;

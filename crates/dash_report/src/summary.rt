@@ -1,6 +1,6 @@
 //! The summary of a run of a generated script.
 ghost use Rattle.std.specs.Prelude.{◌≡◌, ◌+◌, IfOk, count_by};
-ghost use Rattle.run_model.specs.FrameRuns.{is_begin};
+ghost use Rattle.run_model.specs.FrameRecords.{is_begin};
 ghost use Rattle.run_model.specs.Summary.{accepted_in, dispatched_in, frames_in, is_paint, paints_in, summary};
 
 use fate_ledger::fates;

@@ -7,9 +7,9 @@ use Rattle.dash_script.specs.declared.script.Block.{Block}
 use Rattle.dash_script.specs.declared.script.Script.{Script}
 use Rattle.dash_script.specs.Reading.{HasText}
 use Rattle.looper_run.specs.Holding.{Sender}
-use Rattle.run_model.specs.FrameTurns.{in_block, in_round}
+use Rattle.run_model.specs.FrameRecords.{in_block, in_round}
 use Rattle.run_model.specs.Moments.{in_lockstep}
-use Rattle.run_model.specs.Moves.{is_planned_time}
+use Rattle.run_model.specs.Control.{is_planned_time}
 use Rattle.dash_hall.specs.Hearing.{AtEach, HaveHeard}
 use Rattle.dash_threads.specs.declared.thread.PostingThread.{PostingThread}
 use Rattle.dash_threads.specs.Threads.{ThreadKeeps}

@@ -3,7 +3,7 @@ use Rattle.std.specs.Prelude.{◌<◌, ◌≤◌, ℕ, List, length, slice_index
 use Rattle.frame_phases.specs.declared.entry.FrameEntry.{FrameEntry}
 use Rattle.dash_script.specs.declared.script.Block.{Block}
 use Rattle.dash_script.specs.declared.script.Script.{Script}
-use Rattle.run_model.specs.FrameTurns.{in_round}
+use Rattle.run_model.specs.FrameRecords.{in_round}
 use Rattle.run_model.specs.AskedSoFar.{HaveAsked, asked_so_far}
 use Rattle.dash_hall.specs.Hearing.{HasHeardAll, HaveHeardAllAt}
 use Rattle.dash_threads.specs.declared.thread.PostingThread.{PostingThread}
@@ -13,8 +13,8 @@ use Rattle.dash_stage.specs.declared.stage.Stage.{Stage}
 use Rattle.dash_stage.specs.Sharing.{HaveHeardTheSame}
 use Rattle.dash_stage.specs.Timeliness.{AreSound}
 
--- what the threads and looper q have heard of its choreographer was asked for in turn, up to this block or these rounds: by the threads for their lines of these
--- blocks, and by the looper in rounds
+-- what the threads and looper q have heard of its choreographer was asked for in turn, up to this block or these rounds: by the threads for their lines of
+-- these blocks, and by the looper in rounds
 pub record IsAskedInTurn (s : Script) (past : List Block) (last q : ℕ) (st : Stage) : Type 0 where
   pub made : List (ℕ × FrameEntry)
   pub threads : (k : ℕ) (d : PostingThread) → k < length st.threads.items → HaveHeardAllAt q made (slice_index_or st.threads.items k d).kit.frames.items

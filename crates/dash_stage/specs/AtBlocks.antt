@@ -3,9 +3,8 @@ use Rattle.std.specs.Prelude.{◌≡◌, ◌⊎◌, ℕ, true, List}
 use Rattle.loop_model.specs.declared.entry.Entry.{Entry}
 use Rattle.loop_model.specs.Base.{empty_base}
 use Rattle.loop_model.specs.Answers.{has_disposed}
-use Rattle.run_model.specs.Control.{before, InBlock, is_on_time}
-use Rattle.run_model.specs.Fresh.{is_fresh}
-use Rattle.dash_stage.specs.Blocks.{is_threads}
+use Rattle.run_model.specs.Control.{before, InBlock, is_on_time, is_fresh}
+use Rattle.run_model.specs.Parts.{is_threads}
 
 -- the queue was disposed of, or since its time was last moved only threads have called
 abbrev pub IsFresh : ℕ → List Entry → Type 0

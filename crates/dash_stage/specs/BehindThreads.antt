@@ -4,8 +4,7 @@ use mathlib.Core.List.{IsPrefix}
 use Rattle.loop_model.specs.declared.entry.Entry.{Entry}
 use Rattle.dash_script.specs.declared.script.Script.{Script}
 use Rattle.looper_run.specs.Holding.{Sender}
-use Rattle.run_model.specs.Asks.{entries_by}
-use Rattle.run_model.specs.Senders.{controller}
+use Rattle.run_model.specs.Planned.{entries_by, controller}
 use Rattle.dash_hall.specs.Growth.{own}
 use Rattle.dash_hall.specs.Hearing.{AreKnown}
 use Rattle.dash_threads.specs.declared.thread.PostingThread.{PostingThread}

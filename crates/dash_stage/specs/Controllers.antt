@@ -13,8 +13,8 @@ use Rattle.choreographer.specs.Known.{Known as Pass}
 use Rattle.choreographer.specs.Calls.{AskedBy}
 use Rattle.choreographer.specs.Ends.{HasHandedOut, entries_in}
 use Rattle.frame_phases.specs.declared.entry.FrameEntry.{FrameEntry}
-use Rattle.run_model.specs.Acts.{millis_up}
-use Rattle.run_model.specs.Senders.{controller}
+use Rattle.run_model.specs.FrameRecords.{millis_up}
+use Rattle.run_model.specs.Planned.{controller}
 use Rattle.run_model.specs.Control.{is_advance, are_controls}
 use Rattle.dash_hall.specs.declared.hall.Hall.{Hall}
 use Rattle.dash_stage.specs.declared.control.Controller.{Controller}

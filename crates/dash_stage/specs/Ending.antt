@@ -10,7 +10,7 @@ use Rattle.loop_model.specs.declared.segment.Segment.{Segment}
 use Rattle.loop_model.specs.Base.{empty_base}
 use Rattle.loop_model.specs.Legal.{IsLegal, AreNumbered}
 use Rattle.loop_model.specs.Chain.{IsChainFrom}
-use Rattle.run_model.specs.Histories.{history_of}
+use Rattle.run_model.specs.Planned.{history_of, sender_count}
 use Rattle.dash_script.specs.declared.script.Script.{Script}
 use Rattle.shared_queue.specs.Known.{Shared}
 use Rattle.shared_queue.specs.Constants.{Constants}
@@ -18,7 +18,6 @@ use Rattle.looper_run.specs.Holding.{Sender}
 use Rattle.choreographer.specs.Known.{Shared as Frames, Known as Pass}
 use Rattle.choreographer.specs.Ends.{AreHeard, HasHandedOut, entries_in}
 use Rattle.run_model.specs.Run.{setting_of}
-use Rattle.run_model.specs.Senders.{sender_count}
 use Rattle.dash_hall.specs.declared.kit.Kit.{Kit}
 use Rattle.dash_hall.specs.Kits.{ArePostersOf, badge_of, badge_for, FrameBadge, frame_badge_of}
 use Rattle.dash_hall.specs.Dealing.{given_of}

@@ -5,11 +5,11 @@ use Rattle.loop_model.specs.declared.journal.Journal.{Journal}
 use Rattle.loop_model.specs.declared.record.QueueRecord.{QueueRecord}
 use Rattle.frame_phases.specs.declared.entry.FrameRecord.{FrameRecord}
 use Rattle.dash_script.specs.declared.script.Script.{Script}
-use Rattle.run_model.specs.Histories.{history_of}
+use Rattle.run_model.specs.Planned.{history_of, controller}
 use Rattle.run_model.specs.Moments.{Mode, in_lockstep}
-use Rattle.run_model.specs.Moves.{moves, AreMovedTogether}
-use Rattle.run_model.specs.Run.{IsAsPlanned, IsControlled, IsFrameRun, IsBeforeQuit, IsTimely, main_ends_halted}
-use Rattle.run_model.specs.Senders.{controller}
+use Rattle.run_model.specs.Control.{moves, AreMovedTogether, AreBlocksFirst, AreBlocksReached}
+use Rattle.run_model.specs.Run.{IsAsPlanned, IsControlled, IsFrameRun, IsTimely, main_ends_halted}
+use Rattle.run_model.specs.Parts.{IsBeforeQuit}
 use Rattle.loop_model.specs.declared.entry.Entry.{Entry}
 use Rattle.dash_hall.specs.declared.hall.Hall.{Hall}
 use Rattle.dash_hall.specs.declared.kit.Kit.{Kit}
@@ -23,7 +23,6 @@ use Rattle.dash_stage.specs.declared.stage.Stage.{Stage}
 use Rattle.dash_stage.specs.Leaving.{HaveGiven}
 use Rattle.dash_stage.specs.Runs.{HaveRunAll}
 use Rattle.dash_stage.specs.Sharing.{OfThreads, OfKits, CarriesOver}
-use Rattle.dash_stage.specs.Blocks.{AreBlocksFirst, AreBlocksReached}
 use Rattle.dash_stage.specs.Controllers.{HasClosedIn}
 use Rattle.dash_stage.specs.Records.{AreQueueRecords, AreFrameRecords, AreJournals, AreLooperRuns}
 use Rattle.dash_stage.specs.RunEnds.{HasEndedBy, HasEndedByClock, HasEndedInLockstep}

@@ -1,8 +1,6 @@
 pub mod Controllers
 pub mod GivingUp
-pub mod Blocks
 pub mod AtBlocks
-pub mod Staged
 pub mod Outcomes
 pub mod Records
 pub mod Runs

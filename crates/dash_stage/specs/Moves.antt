@@ -9,8 +9,8 @@ use Rattle.loop_model.specs.Answers.{is_over}
 use Rattle.dash_script.specs.declared.script.Script.{Script}
 use Rattle.looper_run.specs.Holding.{Sender}
 use Rattle.looper_run.specs.Round.{is_ended}
-use Rattle.run_model.specs.Senders.{controller, sender_count}
-use Rattle.run_model.specs.Moves.{Move, moves, move_times, main_moves, is_planned_time, IsPulseTime, AreMovedTogether}
+use Rattle.run_model.specs.Planned.{controller, sender_count}
+use Rattle.run_model.specs.Control.{Move, moves, move_times, main_moves, is_planned_time, IsPulseTime, AreMovedTogether}
 use Rattle.dash_loopers.specs.declared.looper.StageLooper.{StageLooper}
 use Rattle.dash_loopers.specs.Loopers.{until_of}
 use Rattle.dash_stage.specs.declared.control.Controller.{Controller}

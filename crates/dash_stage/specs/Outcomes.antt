@@ -3,7 +3,8 @@ use Rattle.std.specs.Prelude.{ℕ, Bool}
 use Rattle.dash_script.specs.declared.script.Script.{Script}
 use Rattle.dash_stage.specs.declared.run.Ran.{Ran}
 use Rattle.dash_stage.specs.declared.run.Ran.TheVariants as ran
-use Rattle.dash_stage.specs.Staged.{IsStaged, IsStagedByClock}
+use Rattle.run_model.specs.Run.{IsStaged}
+use Rattle.run_model.specs.ByClock.{IsStagedByClock}
 
 -- a run that gives a report gives one of a run of the script in lockstep; there may have been no memory
 abbrev pub Stages : Script → Ran → Type 0

@@ -7,17 +7,16 @@ use Rattle.loop_model.specs.Answers.{clock, is_over}
 use Rattle.dash_script.specs.declared.script.Script.{Script}
 use Rattle.looper_run.specs.Holding.{Sender}
 use Rattle.looper_run.specs.Round.{is_ended}
-use Rattle.run_model.specs.Senders.{looper_sender, sender_count}
-use Rattle.run_model.specs.Control.{Before, befores, befores_from, Timing, At, InBlock, NotBefore, are_on_time}
+use Rattle.run_model.specs.Planned.{looper_sender, sender_count}
+use Rattle.run_model.specs.Control.{Before, befores, befores_from, Timing, At, InBlock, NotBefore, are_on_time, come_first}
 use Rattle.run_model.specs.Loopers.{Looper, first_looper}
-use Rattle.run_model.specs.Acts.{sent_on}
+use Rattle.run_model.specs.Parts.{sent_on}
 use Rattle.dash_loopers.specs.declared.looper.StageLooper.{StageLooper}
 use Rattle.dash_loopers.specs.Loopers.{HasRun}
 use Rattle.dash_loopers.specs.Played.{is_disposal, HasCome, HasPlayed, HasComeBy}
 use Rattle.dash_hall.specs.Kits.{AreUnseen}
 use Rattle.dash_stage.specs.declared.control.Controller.{Controller}
 use Rattle.dash_stage.specs.declared.stage.Stage.{Stage}
-use Rattle.dash_stage.specs.Blocks.{come_first}
 use Rattle.dash_stage.specs.AtBlocks.{IsAtBlock}
 use Rattle.dash_stage.specs.Sharing.{HaveSeenTheSame}
 use Rattle.dash_stage.specs.Timeliness.{whole_on, AreSound, WasDisposedBy}

@@ -3,7 +3,7 @@ use Rattle.std.specs.Prelude.{◌≡◌, ◌<◌, ◌+◌, ◌++◌, ℕ, Bool, 
 use Rattle.std.specs.List.{AllByRecursion, range_with_len}
 use mathlib.Core.List.{IsPrefix}
 use Rattle.dash_script.specs.declared.script.Script.{Script}
-use Rattle.run_model.specs.Histories.{history_of}
+use Rattle.run_model.specs.Planned.{history_of, entries_by}
 use Rattle.loop_model.specs.declared.entry.Entry.{Entry}
 use Rattle.loop_model.specs.declared.journal.Journal.{Journal}
 use Rattle.loop_model.specs.declared.record.QueueRecord.{QueueRecord}
@@ -12,8 +12,8 @@ use Rattle.looper_run.specs.Holding.{Sender}
 use Rattle.choreographer.specs.Known.{Known as Pass}
 use Rattle.choreographer.specs.Ends.{AreHeard}
 use Rattle.run_model.specs.Moments.{Mode}
-use Rattle.run_model.specs.Asks.{entries_by}
-use Rattle.run_model.specs.Run.{IsRecordOf, IsFrameRun, IsLooperRun, EachLooper, all_entries}
+use Rattle.run_model.specs.Run.{IsRecordOf, IsFrameRun, IsLooperRun, EachLooper}
+use Rattle.run_model.specs.Parts.{all_entries}
 use Rattle.dash_hall.specs.declared.kit.Kit.{Kit}
 use Rattle.dash_hall.specs.Growth.{own}
 use Rattle.dash_hall.specs.ByClock.{IsByClock}

@@ -2,12 +2,11 @@
 use Rattle.std.specs.Prelude.{◌≡◌, ◌<◌, ◌+◌, ℕ, Bool, true, false, List, length, slice_index_or}
 use Rattle.dash_script.specs.declared.script.Block.{Block}
 use Rattle.dash_script.specs.declared.script.Script.{Script}
-use Rattle.run_model.specs.Planned.{lines_of}
+use Rattle.run_model.specs.Planned.{lines_of, sender_count}
 use Rattle.dash_hall.specs.declared.hall.Hall.{Hall}
 use Rattle.dash_threads.specs.declared.thread.PostingThread.{PostingThread}
 use Rattle.dash_loopers.specs.declared.looper.StageLooper.{StageLooper}
 use Rattle.dash_stage.specs.declared.stage.Stage.{Stage}
-use Rattle.run_model.specs.Senders.{sender_count}
 use Rattle.dash_hall.specs.declared.kit.Kit.{Kit}
 use Rattle.looper_run.specs.Round.{is_ended}
 use Rattle.dash_hall.specs.Kits.{IsHall, IsKitOf}

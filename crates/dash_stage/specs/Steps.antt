@@ -3,8 +3,8 @@ use Rattle.std.specs.Prelude.{◌≡◌, ◌<◌, ◌≤◌, ◌++◌, ◌∷◌
 use mathlib.Core.List.{IsPrefix}
 use Rattle.dash_script.specs.declared.script.Block.{Block}
 use Rattle.dash_script.specs.declared.script.Script.{Script}
-use Rattle.run_model.specs.FrameTurns.{in_block}
-use Rattle.run_model.specs.Moves.{is_planned_time}
+use Rattle.run_model.specs.FrameRecords.{in_block}
+use Rattle.run_model.specs.Control.{is_planned_time}
 use Rattle.dash_hall.specs.Hearing.{AtEach, seen_by}
 use Rattle.dash_stage.specs.declared.side.Turn.{Turn}
 use Rattle.dash_stage.specs.declared.side.Turn.TheVariants.{All}

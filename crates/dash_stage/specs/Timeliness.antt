@@ -13,18 +13,16 @@ use Rattle.dash_script.specs.declared.script.Block.{Block}
 use Rattle.dash_script.specs.declared.script.Script.{Script}
 use Rattle.looper_run.specs.Holding.{Sender}
 use Rattle.looper_run.specs.Round.{is_ended}
-use Rattle.run_model.specs.Asks.{entries_by}
-use Rattle.run_model.specs.Planned.{lines_of, labels_on, lines_on}
-use Rattle.run_model.specs.Senders.{controller, sender_count}
+use Rattle.run_model.specs.Planned.{entries_by, controller, sender_count, lines_of, labels_on, lines_on}
 use Rattle.run_model.specs.Run.{are_in_order}
 use Rattle.run_model.specs.Control.{is_advance, is_halt, is_called_in_time, are_before_quit, is_none_before, befores, InBlock, are_on_time, ends_halted}
+use Rattle.run_model.specs.Control.{AreReached}
 use Rattle.dash_loopers.specs.declared.looper.StageLooper.{StageLooper}
 use Rattle.dash_stage.specs.declared.control.Controller.{Controller}
 use Rattle.dash_stage.specs.declared.stage.Stage.{Stage}
 use Rattle.dash_hall.specs.Growth.{own}
 use Rattle.dash_stage.specs.Controllers.{LooksFor, are_advances, time_in, calls_on}
 use Rattle.dash_loopers.specs.Loopers.{IsSoundOn, until_of, WaitsForNothing, HasNoneDue, setting_for}
-use Rattle.run_model.specs.Fresh.{AreReached}
 use Rattle.dash_stage.specs.Sharing.{HaveSeenTheSame}
 use Rattle.loop_model.specs.Legal.{AreNumbered}
 

@@ -8,7 +8,7 @@ ghost use Rattle.dash_hall.specs.Kits.{IsHall};
 ghost use Rattle.dash_threads.specs.Threads.{AreByClock};
 ghost use Rattle.looper_run.specs.Holding.{Sender};
 ghost use Rattle.run_model.specs.Moments.{Mode, IsMoment};
-ghost use Rattle.run_model.specs.Moves.{IsPulseTime};
+ghost use Rattle.run_model.specs.Control.{IsPulseTime};
 ghost use Rattle.dash_stage.specs.Controllers.{IsController, IsControllerIn, CanTurn, TurnsAlone, IsMoving, IsQuitting, IsClosing, IsClosingBy};
 ghost use Rattle.dash_stage.specs.Controllers.{CallsNone, LooksFor, HandsOutFrames, AtPoster, OtherPassesStay, calls_on, time_in};
 ghost use Rattle.dash_stage.specs.ControlSteps.{KeepsPace, HasAdvanced, HaveAdvanced, QuitsAt, HasHaltedMain};

@@ -1,7 +1,7 @@
 //! The report of a run.
 ghost use Rattle.std.specs.Prelude.{◌≡◌, ℕ, Bool, true, IfOk};
 ghost use Rattle.dash_script.specs.Reading.{HasText};
-ghost use Rattle.run_model.specs.Moments.{in_free_mode};
+ghost use Rattle.run_model.specs.ByClock.{in_free_mode};
 ghost use Rattle.dash_hall.specs.Kits.{IsHall};
 ghost use Rattle.dash_stage.specs.Keeping.{AreKeptOf, GiveKits, GiveBack};
 ghost use Rattle.dash_stage.specs.Outcomes.{Stages, StagesByClock};

@@ -1,8 +1,7 @@
 //! The records of a run's queues and choreographers.
 ghost use Rattle.std.specs.Prelude.{◌≡◌, ◌<◌, ◌+◌, length, IfOk, OnOk, Bool};
 ghost use Rattle.atomic_table.specs.Seated.{TableId};
-ghost use Rattle.run_model.specs.Histories.{history_of};
-ghost use Rattle.run_model.specs.Senders.{sender_count};
+ghost use Rattle.run_model.specs.Planned.{history_of, sender_count};
 ghost use Rattle.dash_hall.specs.Kits.{IsHall, AreKitsOf, AreQueuesOf, AreChoreographersOf, frame_constants, frames_for};
 ghost use Rattle.dash_hall.specs.Dealing.{EachGivesPoster, given_of};
 ghost use Rattle.dash_stage.specs.Ending.{HavePosters, AreNext, AreSealed, HasSealedNext, HaveAllPosters, IsKeptOf, EachEndsPoster};

@@ -7,7 +7,8 @@ use Rattle.dash_script.specs.declared.script.Line.{Line}
 use Rattle.dash_script.specs.declared.script.Command.TheVariants.{Post}
 use Rattle.dash_script.specs.declared.script.Script.{Script}
 use Rattle.run_model.specs.Moments.{Mode}
-use Rattle.run_model.specs.Planned.{Timed, lines_in, lines_of}
+use Rattle.run_model.specs.Planned.{Timed, lines_of}
+use Rattle.run_model.specs.Parts.{lines_in}
 use Rattle.dash_script.specs.declared.script.Block.{Block}
 use Rattle.std.proofs.lemmas.Grind.{flat_map-append}
 use Rattle.dash_hall.specs.declared.hall.Hall.{Hall}

@@ -12,10 +12,10 @@ use Rattle.dash_script.specs.Causes.{each_number, numbers_pass, is_within, is_de
 use Rattle.dash_script.specs.Reading.{HasText}
 use Rattle.looper_run.specs.Holding.{Sender}
 use Rattle.choreographer.specs.Known.{Known as Pass}
-use Rattle.run_model.specs.Asks.{call_of, tokens_in}
+use Rattle.run_model.specs.Planned.{call_of, Timed, labels_on, lines_of, frame_message, frame_due, on}
+use Rattle.run_model.specs.AskedSoFar.{tokens_in, lines_ask}
 use Rattle.run_model.specs.Moments.{Mode, IsUptime, IsMoment}
-use Rattle.run_model.specs.Planned.{Timed, labels_on, lines_of, frame_message, frame_due, on}
-use Rattle.run_model.specs.FrameAsks.{FrameAsk, Posts, Removes, as_told, line_asks, lines_ask}
+use Rattle.run_model.specs.FrameRecords.{FrameAsk, Posts, Removes, as_told, line_asks}
 use Rattle.dash_threads.specs.declared.labels.Labelled.{Labelled}
 use Rattle.dash_hall.specs.declared.handlers.Request.TheVariants as request
 use Rattle.dash_hall.specs.declared.calls.QueueCall.TheVariants as on_queue

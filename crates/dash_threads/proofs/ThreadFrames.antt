@@ -12,7 +12,8 @@ use Rattle.choreographer.specs.Known.{Known as Pass, IsTurn}
 use Rattle.choreographer.proofs.Recorded.{turn_records}
 use Rattle.run_model.specs.Moments.{in_lockstep}
 use Rattle.run_model.specs.Planned.{Timed}
-use Rattle.run_model.specs.FrameAsks.{Removes, asked_in, asks_in, lines_ask}
+use Rattle.run_model.specs.FrameRecords.{Removes, asked_in, asks_in}
+use Rattle.run_model.specs.AskedSoFar.{lines_ask}
 use Rattle.dash_hall.specs.Growth.{GoesOn}
 use Rattle.dash_hall.specs.Hosts.{HostOrigin, IsHost, sends_by, PlacesBy, PostsFrame, asks_of, AsksFor}
 use Rattle.dash_threads.specs.Threads.{HasAsked}

@@ -4,7 +4,7 @@ use Rattle.frame_phases.specs.declared.entry.FrameEntry.{FrameEntry}
 use Rattle.choreographer.specs.Known.{Known as Pass}
 use Rattle.run_model.specs.Moments.{Mode}
 use Rattle.run_model.specs.Planned.{Timed}
-use Rattle.run_model.specs.FrameAsks.{as_told, asks_in}
+use Rattle.run_model.specs.FrameRecords.{as_told, asks_in}
 use Rattle.dash_hall.specs.Hearing.{PassesHaveHeard}
 use Rattle.dash_threads.specs.Threads.{HasAsked, HasTurned}
 

@@ -16,8 +16,8 @@ use Rattle.dash_script.specs.declared.script.Block.{Block}
 use Rattle.dash_script.specs.declared.script.Script.{Script}
 use Rattle.dash_script.specs.Causes.{commands, is_label, has_barrier}
 use Rattle.dash_script.specs.Reading.{HasText, label_fits, labels_fit}
-use Rattle.run_model.specs.Asks.{Unbars, call_of}
-use Rattle.run_model.specs.Planned.{Timed, lines_in, lines_of, label_on, labels_on, planned}
+use Rattle.run_model.specs.Planned.{Unbars, call_of, Timed, lines_of, label_on, labels_on, planned}
+use Rattle.run_model.specs.Parts.{lines_in}
 use Rattle.dash_threads.specs.declared.labels.Labelled.{Labelled}
 use Rattle.dash_threads.specs.Planning.{removal_of}
 use Rattle.dash_threads.specs.Threads.{labels_kept, tokens_kept}

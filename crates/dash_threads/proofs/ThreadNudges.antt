@@ -4,9 +4,10 @@ use Rattle.std.specs.Prelude.{Result, Ok, Err, IfOk}
 use Rattle.loop_model.specs.declared.entry.Entry.{Entry}
 use Rattle.dash_script.specs.declared.script.Script.{Script}
 use Rattle.looper_run.specs.Holding.{Sender}
-use Rattle.run_model.specs.Asks.{entries_by, tokens_in}
-use Rattle.run_model.specs.Moments.{Mode, IsUptime, AreOfClock}
-use Rattle.run_model.specs.Planned.{Timed, lines_of, labels_on, MakeCalls}
+use Rattle.run_model.specs.Planned.{entries_by, Timed, lines_of, labels_on}
+use Rattle.run_model.specs.AskedSoFar.{tokens_in}
+use Rattle.run_model.specs.Moments.{Mode, IsUptime}
+use Rattle.run_model.specs.Parts.{AreOfClock, MakeCalls}
 use Rattle.dash_hall.specs.Growth.{own}
 use Rattle.dash_hall.specs.Kits.{Badge}
 use Rattle.dash_hall.specs.ByClock.{is_by, IsByClock}

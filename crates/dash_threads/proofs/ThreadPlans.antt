@@ -6,9 +6,7 @@ use Rattle.loop_model.specs.declared.call.Call.{Call}
 use Rattle.dash_script.specs.declared.script.Command.{Command}
 use Rattle.dash_script.specs.declared.script.Command.TheVariants.{Post, PostAsync, Front, Callback, Set, Remove, RemoveCallback, RemoveAll, Barrier, Unbarrier, Quit, QuitSafely, Idle, Watch, Event, Frame, Unframe}
 use Rattle.dash_script.specs.declared.script.Script.{Script}
-use Rattle.run_model.specs.Senders.{looper_of, gauge_handler}
-use Rattle.run_model.specs.Asks.{Makes, call_of}
-use Rattle.run_model.specs.Planned.{planned}
+use Rattle.run_model.specs.Planned.{looper_of, gauge_handler, Makes, call_of, planned}
 use Rattle.dash_threads.specs.declared.labels.Labelled.{Labelled}
 use Rattle.dash_threads.specs.declared.planned.PlannedCall.{PlannedCall}
 use Rattle.dash_hall.specs.Requests.{call_made}

@@ -15,10 +15,10 @@ use Rattle.dash_script.specs.Causes.{each_number, numbers_pass, is_declared}
 use Rattle.dash_script.specs.Reading.{HasText}
 use Rattle.looper_run.specs.Holding.{Sender}
 use Rattle.choreographer.specs.Known.{Known as Pass}
-use Rattle.run_model.specs.Asks.{call_of, token_in, tokens_in}
+use Rattle.run_model.specs.Planned.{call_of, token_in, Timed, planned, label_on, labels_on, lines_of}
+use Rattle.run_model.specs.AskedSoFar.{tokens_in, lines_ask}
 use Rattle.run_model.specs.Moments.{Mode, IfFree, IsUptime, IsMoment}
-use Rattle.run_model.specs.Planned.{Timed, planned, label_on, labels_on, lines_of}
-use Rattle.run_model.specs.FrameAsks.{FrameAsk, as_told, line_asks, lines_ask}
+use Rattle.run_model.specs.FrameRecords.{FrameAsk, as_told, line_asks}
 use Rattle.dash_threads.specs.declared.labels.Labelled.{Labelled}
 use Rattle.dash_threads.specs.declared.planned.PlannedCall.{PlannedCall}
 use Rattle.dash_hall.specs.declared.calls.QueueCall.TheVariants as on_queue

@@ -7,9 +7,10 @@ use Rattle.std.proofs.lemmas.List.{get_or_read, get_or-set_same, get_or-set_othe
 use Rattle.loop_model.specs.declared.entry.Entry.{Entry}
 use Rattle.dash_script.specs.declared.script.Script.{Script}
 use Rattle.looper_run.specs.Holding.{Sender}
-use Rattle.run_model.specs.Asks.{plain, call_of, tokens_in}
+use Rattle.run_model.specs.Planned.{plain, call_of, Timed, planned, lines_on, IsNoEarlier}
+use Rattle.run_model.specs.AskedSoFar.{tokens_in}
 use Rattle.run_model.specs.Moments.{Mode, IfFree, IsUptime, IsMoment}
-use Rattle.run_model.specs.Planned.{Timed, planned, lines_on, MakeCalls, IsNoEarlier}
+use Rattle.run_model.specs.Parts.{MakeCalls}
 use Rattle.run_model.proofs.RunLaws.{MakeCalls-line, MakeCalls-skip}
 use Rattle.dash_hall.specs.declared.calls.QueueCall.{QueueCall}
 use Rattle.dash_hall.specs.declared.hall.Hall.{Hall}

@@ -13,7 +13,8 @@ use Rattle.dash_script.specs.Text.{say, command_line, line_of, block_lines, line
 use Rattle.dash_script.specs.Causes.{each_number, numbers_pass, is_within}
 use Rattle.dash_script.specs.Reading.{HasText}
 use Rattle.dash_script.proofs.Sections.{both, sections_pass}
-use Rattle.run_model.specs.Planned.{Timed, lines_in, lines_of}
+use Rattle.run_model.specs.Planned.{Timed, lines_of}
+use Rattle.run_model.specs.Parts.{lines_in}
 
 -- at most eight loopers
 pub few_loopers : (s : Script) → HasText s → s.loopers ≤ 8

@@ -6,7 +6,7 @@ use Rattle.dash_script.specs.declared.script.Command.{Command}
 use Rattle.dash_script.specs.declared.script.Command.TheVariants.{Post, PostAsync, Front, Callback, Set, Remove, RemoveCallback, RemoveAll, Barrier}
 use Rattle.dash_script.specs.declared.script.Command.TheVariants.{Unbarrier, Quit, QuitSafely}
 use Rattle.dash_script.specs.declared.script.Script.{Script}
-use Rattle.run_model.specs.Senders.{handler_line, looper_of, gauge_handler}
+use Rattle.run_model.specs.Planned.{handler_line, looper_of, gauge_handler}
 use Rattle.loop_model.specs.Posts.{moment_after}
 use Rattle.dash_threads.specs.declared.labels.Labelled.{Labelled}
 use Rattle.dash_hall.specs.declared.handlers.Request.{Request}

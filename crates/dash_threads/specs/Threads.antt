@@ -7,12 +7,13 @@ use Rattle.dash_script.specs.declared.script.Script.{Script}
 use Rattle.looper_run.specs.Holding.{Sender}
 use Rattle.choreographer.specs.Known.{Known as Pass}
 use Rattle.run_model.specs.Moments.{Mode, IfFree, IsUptime}
-use Rattle.run_model.specs.Planned.{Timed, lines_in, lines_of, labels_on, MakeCalls}
-use Rattle.run_model.specs.FrameAsks.{as_told, lines_ask}
+use Rattle.run_model.specs.Planned.{Timed, lines_of, labels_on}
+use Rattle.run_model.specs.Parts.{lines_in, MakeCalls}
+use Rattle.run_model.specs.FrameRecords.{as_told}
+use Rattle.run_model.specs.AskedSoFar.{lines_ask, tokens_in}
 use Rattle.dash_hall.specs.declared.hall.Hall.{Hall}
 use Rattle.dash_threads.specs.declared.thread.PostingThread.{PostingThread}
 use mathlib.Core.List.{IsPrefix}
-use Rattle.run_model.specs.Asks.{tokens_in}
 use Rattle.dash_script.specs.declared.script.Command.{Command}
 use Rattle.dash_script.specs.declared.script.Command.TheVariants as command
 use Rattle.dash_script.specs.declared.script.Command.TheVariants.{Barrier}

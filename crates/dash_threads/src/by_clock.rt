@@ -1,9 +1,11 @@
 //! A thread that runs its blocks by a clock.
 ghost use Rattle.std.specs.Prelude.{◌≡◌, true, false, IfOk, IfErr};
-ghost use Rattle.run_model.specs.Moments.{in_free_mode, IsUptime};
-ghost use Rattle.run_model.specs.Planned.{lines_in, lines_of};
+ghost use Rattle.run_model.specs.Moments.{IsUptime};
+ghost use Rattle.run_model.specs.Planned.{lines_of};
 ghost use Rattle.dash_threads.specs.AtWork.{IsAtWork, StaysAtWork, RunsUnlessGivenUp, RunsLines, RingsBells};
 ghost use Rattle.dash_threads.specs.Threads.{Takes, TakesAt, Continues, RunsAll, one_pass_more};
+ghost use Rattle.run_model.specs.ByClock.{in_free_mode};
+ghost use Rattle.run_model.specs.Parts.{lines_in};
 ghost use Rattle.dash_threads.specs.Threads.{rungs_of, one_more, more_for, looper_woken};
 
 use crate::thread::{PostingThread, Timed};

@@ -6,9 +6,8 @@ use Rattle.std.specs.Io.KnownBytes.{Consumes, IsAtEnd}
 use Rattle.loop_io.specs.Causes.{one_more, Rose}
 use Rattle.dashboard_cli.specs.Answers.{AllOf, CountsReads, HasGoodInput, HasInput, IsOf, IsRefused, IsTold, IsTooLong, IsWithin}
 use Rattle.dashboard_cli.specs.Steps.{Stops}
-use Rattle.dashboard_cli.specs.Streams.{Known}
-use Rattle.dashboard_cli.specs.Words.{IsAsked}
-use Rattle.dashboard_cli.specs.Works.{work, Input}
+use Rattle.dashboard_cli.specs.Works.{Known, Input}
+use Rattle.dashboard_cli.specs.Words.{IsAsked, work}
 use Rattle.dashboard_cli.specs.declared.status.Status.{Status}
 use Rattle.dashboard_cli.specs.declared.status.Status.TheVariants.{Ok, Usage, Script, ReadFault, WriteFault, NoMemory, TooLong, Trace}
 use Rattle.dashboard_cli.specs.declared.words.Command.{Command}

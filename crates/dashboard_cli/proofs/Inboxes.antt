@@ -9,14 +9,14 @@ use Rattle.loop_model.specs.declared.entry.Entry.{Entry}
 use Rattle.loop_model.specs.Fates.{fates}
 use Rattle.dash_script.specs.declared.script.Script.{Script as ScriptData}
 use Rattle.dash_script.specs.Accepting.{IsText}
-use Rattle.run_model.specs.Histories.{history_of}
+use Rattle.run_model.specs.Planned.{history_of}
 use Rattle.run_model.specs.Text.{Words, fates_line, history_lines, line_text}
 use Rattle.inbox_queue.specs.declared.parcel.Parcel.{Parcel}
 use Rattle.inbox_queue.specs.declared.run.InboxReport.{InboxReport}
 use Rattle.inbox_queue.specs.Bad.{bad_line}
 use Rattle.dashboard_cli.specs.InboxText.{admitted_from, from_line, inbox_lines, inbox_text}
-use Rattle.dashboard_cli.specs.Streams.{limit, Known, ReadsWhole}
-use Rattle.dashboard_cli.specs.Works.{inbox_scripts, IsInboxText, RefusesInbox, Says}
+use Rattle.dashboard_cli.specs.Works.{limit, Known, ReadsWhole, Says}
+use Rattle.dashboard_cli.specs.OtherWorks.{inbox_scripts, IsInboxText, RefusesInbox}
 use Rattle.dashboard_cli.specs.Steps.{IsNone, Stops}
 use Rattle.dashboard_cli.specs.declared.status.Cause.TheVariants as cause
 use Rattle.dashboard_cli.specs.declared.status.Status.{Status}

@@ -4,11 +4,12 @@ use Rattle.std.specs.Io.KnownBytes.{Keeps}
 use Rattle.dash_script.specs.declared.script.Script.{Script as ScriptData}
 use Rattle.dash_script.specs.Accepting.{IsText}
 use Rattle.run_model.specs.declared.report.Report.{Report}
-use Rattle.dash_stage.specs.Staged.{IsStaged, IsStagedByClock}
+use Rattle.run_model.specs.Run.{IsStaged}
+use Rattle.run_model.specs.ByClock.{IsStagedByClock}
 use Rattle.dashboard_cli.specs.Answers.{HasInput, MakesOf}
 use Rattle.dashboard_cli.specs.Steps.{HasRun, HasRunFree}
-use Rattle.dashboard_cli.specs.Streams.{limit, Known, ReadsWhole}
-use Rattle.dashboard_cli.specs.Works.{work_by}
+use Rattle.dashboard_cli.specs.Works.{limit, Known, ReadsWhole}
+use Rattle.dashboard_cli.specs.Words.{work_by}
 use Rattle.dashboard_cli.specs.declared.making.Returned.{Returned}
 use Rattle.dashboard_cli.specs.declared.words.Command.{Command}
 

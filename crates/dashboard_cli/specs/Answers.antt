@@ -2,58 +2,51 @@
 use Rattle.std.specs.Prelude.{◌≡◌, ◌⊎◌, ℕ, ◌+◌, ◌≤◌, List, [], Bool, true, false, Option, Some, None, length}
 use Rattle.std.specs.Io.KnownBytes.{Appends, Consumes, Keeps}
 use Rattle.loop_io.specs.Causes.{one_more, AppendsFront, Rose}
-use Rattle.dashboard_cli.specs.Streams.{Known, ReadsWhole}
-use Rattle.dashboard_cli.specs.Words.{IsAsked}
-use Rattle.dashboard_cli.specs.Works.{Input, Work, work, work_by}
-use Rattle.dashboard_cli.specs.Returns.{returned}
+use Rattle.dashboard_cli.specs.Works.{Known, ReadsWhole, Input, Work}
+use Rattle.dashboard_cli.specs.Words.{IsAsked, work, work_by}
 use Rattle.dashboard_cli.specs.declared.making.Returned.{Returned}
 use Rattle.dashboard_cli.specs.declared.status.Status.{Status}
 use Rattle.dashboard_cli.specs.declared.status.Status.TheVariants.{Ok, Script, ReadFault, WriteFault, NoMemory, Trace}
 use Rattle.dashboard_cli.specs.declared.top_call.Outcome.{Outcome}
 use Rattle.dashboard_cli.specs.declared.words.Command.{Command}
 
--- the words are a command of which this holds
+-- what an outcome returns beside its status
+abbrev pub returned : Outcome → Returned
+returned outcome = record { report = outcome.report; frames = outcome.frames; inbox = outcome.inbox }
+
+-- the words are a command of which this holds; and it holds of the command that the words are, if they are one
 pub record IsOf (words : List (List ℕ)) (P : Command → Type 0) : Type 0 where
   pub command : Command
   pub asked : IsAsked words command
   pub holds : P command
 
--- this holds of the command that the words are, if they are one
 abbrev pub AllOf : List (List ℕ) → (Command → Type 0) → Type 0
 AllOf words P = (command : Command) → IsAsked words command → P command
 
--- the whole input of a command that reads so many bytes at most; nothing for one that does not read
+-- this text and what is returned were made of the whole input of a command that reads so many bytes at most; of nothing for one that does not read
 abbrev pub HasInput : Option ℕ → Known → Known → List ℕ → Type 0
 HasInput (Some most) before after input = ReadsWhole most before after input
 HasInput None before after input = Keeps before after × (input ≡ [])
 
--- this text and what is returned were made of the whole input
 pub record MakesOf (work : Work) (before after : Known) (out : List ℕ) (given : Returned) : Type 0 where
   pub input : List ℕ
   pub read : HasInput work.reads.most before after input
   pub made : work.Makes input out given
 
--- the text is written whole
-pub record IsDone (work : Work) (before after held holds : Known) (given : Returned) : Type 0 where
+-- the text is made whole, and written so: whole, or a front of it
+pub record IsWritten (Grows : Known → Known → List ℕ → Type 0) (work : Work) (before after held holds : Known) (given : Returned) : Type 0 where
   pub out : List ℕ
   pub made : MakesOf work before after out given
-  pub written : Appends held holds out
+  pub written : Grows held holds out
 
--- the text is made whole, and a front of it is written
-pub record IsBrokenOff (work : Work) (before after held holds : Known) (given : Returned) : Type 0 where
-  pub out : List ℕ
-  pub made : MakesOf work before after out given
-  pub written : AppendsFront held holds out
-
--- at Ok the words are a command whose text is written whole, by the numbers that the clock shows
+-- at Ok the words are a command whose text is written whole, by the numbers that the clock shows; at WriteFault they are one of whose text a front is written
 abbrev pub WritesWholeAtOk : (ℕ → Bool) → List (List ℕ) → Known → Known → Known → Known → Outcome → Type 0
 WritesWholeAtOk shows words before after held holds outcome =
-    outcome.status ≡ Ok → IsOf words (λ command. IsDone (work_by shows command) before after held holds (returned outcome))
+    outcome.status ≡ Ok → IsOf words (λ command. IsWritten Appends (work_by shows command) before after held holds (returned outcome))
 
--- at WriteFault they are one of whose text a front is written
 abbrev pub WritesFrontAtFault : (ℕ → Bool) → List (List ℕ) → Known → Known → Known → Known → Outcome → Type 0
 WritesFrontAtFault shows words before after held holds outcome =
-    outcome.status ≡ WriteFault → IsOf words (λ command. IsBrokenOff (work_by shows command) before after held holds (returned outcome))
+    outcome.status ≡ WriteFault → IsOf words (λ command. IsWritten AppendsFront (work_by shows command) before after held holds (returned outcome))
 
 -- the whole input is refused with this status, and it is none that is taken
 pub record IsRefused (wanted : Input) (before after : Known) (status : Status) : Type 0 where
@@ -62,30 +55,20 @@ pub record IsRefused (wanted : Input) (before after : Known) (status : Status) :
   pub bad : wanted.Refuses input status
   pub not_taken : wanted.Takes input → ⊥
 
--- so many bytes and one more were read
-abbrev pub ReadsPast : ℕ → Known → Known → Type 0
-ReadsPast most before after = (input : List ℕ) × Consumes before after input × (length input ≡ most + 1)
-
--- the command reads, and one byte more was read than its input may have
+-- the command reads, and one byte more was read than its input may have; or no more bytes were read than it may have
 abbrev pub IsTooLong : Option ℕ → Known → Known → Type 0
-IsTooLong (Some most) before after = ReadsPast most before after
+IsTooLong (Some most) before after = (input : List ℕ) × Consumes before after input × (length input ≡ most + 1)
 IsTooLong None before after = ⊥
 
--- no more bytes were read than these
-abbrev pub ReadsWithin : ℕ → Known → Known → Type 0
-ReadsWithin most before after = (input : List ℕ) × Consumes before after input × (length input ≤ most)
-
--- no more bytes were read than the command's input may have
 abbrev pub IsWithin : Option ℕ → Known → Known → Type 0
-IsWithin (Some most) before after = ReadsWithin most before after
+IsWithin (Some most) before after = (input : List ℕ) × Consumes before after input × (length input ≤ most)
 IsWithin None before after = Keeps before after
 
--- the source tells that this is its input, which is short enough; for a command that reads nothing it is empty
+-- the source tells that this is its input, which is short enough; for a command that reads nothing it is empty; and it is one that is taken
 abbrev pub IsTold : Option ℕ → Known → List ℕ → Type 0
 IsTold (Some most) before input = (before ≡ Some input) × (length input ≤ most)
 IsTold None before input = input ≡ []
 
--- the input is told, short enough and one that is taken
 pub record HasGoodInput (wanted : Input) (before : Known) : Type 0 where
   pub input : List ℕ
   pub told : IsTold wanted.most before input
@@ -96,24 +79,22 @@ abbrev pub Completes : List (List ℕ) → Known → ℕ → ℕ → Status → 
 Completes words before counted now status =
     IsOf words (λ command. HasGoodInput (work command).reads before) → (Rose counted now → ⊥) → (status ≡ Ok) ⊎ (status ≡ NoMemory)
 
--- at this status nothing was written
+-- at this status nothing was written; and this status names a bad line of the input
 abbrev pub writes_nothing : Status → Bool
 writes_nothing Ok = false
 writes_nothing WriteFault = false
 writes_nothing status = true
 
--- this status names a bad line of the input
 abbrev pub is_refusal : Status → Bool
 is_refusal (Script line cause) = true
 is_refusal (Trace line) = true
 is_refusal status = false
 
--- where the status tells that the source failed, it counted one fault in this call, and else none
+-- where the status tells that the source failed, or the sink, that one counted one fault in this call, and else none
 abbrev pub CountsReads : Status → ℕ → ℕ → Type 0
 CountsReads ReadFault before now = now ≡ one_more before
 CountsReads status before now = now ≡ before
 
--- where the status tells that the sink failed, it counted one fault in this call, and else none
 abbrev pub CountsWrites : Status → ℕ → ℕ → Type 0
 CountsWrites WriteFault before now = now ≡ one_more before
 CountsWrites status before now = now ≡ before

@@ -1,11 +1,10 @@
 pub mod Status
-pub mod Streams
+pub mod Works
 pub mod Partial
-pub mod Words
-pub mod CommandLine
 pub mod Verdicts
 pub mod InboxText
-pub mod Returns
-pub mod Works
+pub mod OtherWorks
+pub mod Words
+pub mod CommandLine
 pub mod Answers
 pub mod Steps

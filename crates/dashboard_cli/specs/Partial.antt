@@ -4,7 +4,7 @@ use Rattle.std.specs.Io.KnownBytes.{Consumes}
 use Rattle.dashboard_cli.specs.declared.reading.ReadError.{ReadError}
 use Rattle.dashboard_cli.specs.declared.reading.ReadError.TheVariants.{Failed, TooLong}
 use Rattle.loop_io.specs.Causes.{one_more}
-use Rattle.dashboard_cli.specs.Streams.{Known}
+use Rattle.dashboard_cli.specs.Works.{Known}
 
 -- some bytes were read, at most one more than the limit, and one more exactly where the input is too long
 pub record ReadsPart (most : ℕ) (before after : Known) (error : ReadError) : Type 0 where

@@ -1,14 +1,15 @@
 -- What the steps of the top call answer.
-use Rattle.std.specs.Prelude.{ℕ, List, Bool}
+use Rattle.std.specs.Prelude.{ℕ, List, Bool, ◌≡◌, ◌×◌, ◌+◌, ◌≤◌, length}
+use Rattle.std.specs.Io.KnownBytes.{Consumes}
 use Rattle.dash_script.specs.Accepting.{IsText}
-use Rattle.dash_stage.specs.Staged.{IsStaged, IsStagedByClock}
+use Rattle.run_model.specs.Run.{IsStaged}
+use Rattle.run_model.specs.ByClock.{IsStagedByClock}
 use Rattle.run_model.specs.declared.report.Report.{Report}
-use Rattle.dashboard_cli.specs.Streams.{limit, Known, ReadsWhole}
-use Rattle.dashboard_cli.specs.Works.{Input, Work}
+use Rattle.dashboard_cli.specs.Works.{limit, Known, ReadsWhole, Input, Work}
 use Rattle.dashboard_cli.specs.declared.making.Product.{Product}
 use Rattle.dashboard_cli.specs.declared.status.Status.{Status}
 use Rattle.dashboard_cli.specs.declared.status.Status.TheVariants.{Script, ReadFault, NoMemory, TooLong, Trace}
-use Rattle.dashboard_cli.specs.Answers.{MakesOf, IsRefused, ReadsPast, IsTooLong, ReadsWithin, IsWithin}
+use Rattle.dashboard_cli.specs.Answers.{MakesOf, IsRefused, IsTooLong, IsWithin}
 
 -- the text, and what is returned beside it, are what this work makes of its input
 abbrev pub MakesProduct : Work → Known → Known → Product → Type 0
@@ -22,6 +23,14 @@ Stops wanted before after (Script line cause) = IsRefused wanted before after (S
 Stops wanted before after (Trace line) = IsRefused wanted before after (Trace line)
 Stops wanted before after NoMemory = IsWithin wanted.most before after
 Stops wanted before after status = ⊥
+
+-- so many bytes and one more were read
+abbrev pub ReadsPast : ℕ → Known → Known → Type 0
+ReadsPast most before after = (input : List ℕ) × Consumes before after input × (length input ≡ most + 1)
+
+-- no more bytes were read than these
+abbrev pub ReadsWithin : ℕ → Known → Known → Type 0
+ReadsWithin most before after = (input : List ℕ) × Consumes before after input × (length input ≤ most)
 
 -- why an input was not read whole
 abbrev pub StopsReading : ℕ → Known → Known → Status → Type 0

@@ -1,9 +1,17 @@
--- The commands, and the words that each is written with.
-use Rattle.std.specs.Prelude.{◌≡◌, ◌⊎◌, ◌^◌, ◌<◌, ℕ, List, [], ◌∷◌, codes, map, String, string_bytes}
+-- The commands: the words that each is written with, what each reads, and what it makes of that.
+use Rattle.std.specs.Prelude.{◌≡◌, ◌⊎◌, ◌^◌, ◌<◌, ℕ, List, [], ◌∷◌, codes, map, String, string_bytes, Bool, true}
 use Rattle.std.specs.declared.alloc.Global.{Global}
 use Rattle.std.specs.Fmt.{decimal}
+use Rattle.dash_script.specs.Accepting.{IsText}
+use Rattle.run_model.specs.Text.{text as report_text}
+use Rattle.run_model.specs.Run.{IsStaged}
+use Rattle.run_model.specs.ByClock.{IsStagedByClock}
+use Rattle.dashboard_cli.specs.Works.{scripts, Input, Work, Writes, only_report}
+use Rattle.dashboard_cli.specs.OtherWorks.{inbox_scripts, plans, traces, no_input, IsGenerated, Prints, Migrates, Sums, WritesHistories, Checks, Animates}
+use Rattle.dashboard_cli.specs.OtherWorks.{RunsInbox}
 use Rattle.dashboard_cli.specs.declared.words.Command.{Command}
-use Rattle.dashboard_cli.specs.declared.words.Command.TheVariants.{Run, RunFree, Text, Migrate, Make, MakeRun, Trace, Check, Animate, Inbox}
+use Rattle.dashboard_cli.specs.declared.making.Returned.{Returned}
+use Rattle.dashboard_cli.specs.declared.words.Command.TheVariants as command
 
 -- the words as texts
 abbrev pub texts : List (String Global) → List (List ℕ)
@@ -11,29 +19,57 @@ texts = map string_bytes
 
 -- the words are a spelling of the command
 abbrev pub IsSpelled : Command → List (List ℕ) → Type 0
-IsSpelled Run words = words ≡ codes "run" ∷ []
-IsSpelled RunFree words = words ≡ codes "run" ∷ codes "--free" ∷ []
-IsSpelled Text words = words ≡ codes "text" ∷ []
-IsSpelled Migrate words = words ≡ codes "text" ∷ codes "--to" ∷ codes "2" ∷ []
-IsSpelled Trace words = words ≡ codes "trace" ∷ []
-IsSpelled Check words = words ≡ codes "check" ∷ []
-IsSpelled Animate words = words ≡ codes "animate" ∷ []
-IsSpelled Inbox words = words ≡ codes "inbox" ∷ []
-IsSpelled (Make number) words = words ≡ codes "make" ∷ decimal number ∷ []
-IsSpelled (MakeRun number) words = (words ≡ codes "make" ∷ decimal number ∷ codes "--run" ∷ [])
+IsSpelled command.Run words = words ≡ codes "run" ∷ []
+IsSpelled command.RunFree words = words ≡ codes "run" ∷ codes "--free" ∷ []
+IsSpelled command.Text words = words ≡ codes "text" ∷ []
+IsSpelled command.Migrate words = words ≡ codes "text" ∷ codes "--to" ∷ codes "2" ∷ []
+IsSpelled command.Trace words = words ≡ codes "trace" ∷ []
+IsSpelled command.Check words = words ≡ codes "check" ∷ []
+IsSpelled command.Animate words = words ≡ codes "animate" ∷ []
+IsSpelled command.Inbox words = words ≡ codes "inbox" ∷ []
+IsSpelled (command.Make number) words = words ≡ codes "make" ∷ decimal number ∷ []
+IsSpelled (command.MakeRun number) words = (words ≡ codes "make" ∷ decimal number ∷ codes "--run" ∷ [])
     ⊎ (words ≡ codes "make" ∷ codes "--run" ∷ decimal number ∷ [])
 
 -- the number of the command is a u32
 abbrev pub IsInRange : Command → Type 0
-IsInRange (Make number) = number < 2 ^ 32
-IsInRange (MakeRun number) = number < 2 ^ 32
+IsInRange (command.Make number) = number < 2 ^ 32
+IsInRange (command.MakeRun number) = number < 2 ^ 32
 IsInRange command = Unit {0}
 
--- the words are this command
+-- the words are this command; and some command
 pub record IsAsked (words : List (List ℕ)) (command : Command) : Type 0 where
   pub fits : IsInRange command
   pub spelled : IsSpelled command words
 
--- the words are a spelling of some command
 abbrev pub IsListed : List (List ℕ) → Type 0
 IsListed words = (command : Command) × IsAsked words command
+
+-- what each command reads: a script, but for these
+abbrev pub reads_of : Command → Input
+reads_of (command.Make number) = no_input
+reads_of (command.MakeRun number) = no_input
+reads_of command.Check = traces
+reads_of command.Animate = plans
+reads_of command.Inbox = inbox_scripts
+reads_of _ = scripts
+
+-- what each command makes of it, by the numbers that the clock shows
+abbrev pub makes_by : (ℕ → Bool) → Command → List ℕ → List ℕ → Returned → Type 0
+makes_by shows command.Run = Writes IsText IsStaged report_text only_report
+makes_by shows command.RunFree = Writes IsText (IsStagedByClock shows) report_text only_report
+makes_by shows command.Text = Prints IsText (λ script. script)
+makes_by shows command.Migrate = Migrates
+makes_by shows (command.Make number) = Prints (IsGenerated number) (λ script. script)
+makes_by shows (command.MakeRun number) = Sums number
+makes_by shows command.Trace = WritesHistories
+makes_by shows command.Check = Checks
+makes_by shows command.Animate = Animates
+makes_by shows command.Inbox = RunsInbox
+
+-- what this command does; and one that reads no clock
+abbrev pub work_by : (ℕ → Bool) → Command → Work
+work_by shows c = record { reads = reads_of c; Makes = makes_by shows c }
+
+abbrev pub work : Command → Work
+work c = work_by (λ reading. true) c

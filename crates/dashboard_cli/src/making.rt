@@ -3,9 +3,12 @@ ghost use Rattle.std.specs.Prelude.{◌≡◌, [], None, IfErr, IfOk};
 ghost use Rattle.dash_script.specs.Reading.{HasText};
 ghost use Rattle.dashboard_cli.specs.Answers.{CountsReads};
 ghost use Rattle.dashboard_cli.specs.Steps.{HasRun, HasRunFree, Stops, IsNone, MakesProduct};
-ghost use Rattle.dashboard_cli.specs.Works.{inbox_scripts, plans, scripts, traces, work, work_by, IsInboxText};
+ghost use Rattle.dashboard_cli.specs.Works.{scripts};
+ghost use Rattle.dashboard_cli.specs.OtherWorks.{inbox_scripts, plans, traces, IsInboxText};
+ghost use Rattle.dashboard_cli.specs.Words.{work, work_by};
 ghost use Rattle.inbox_queue.specs.InboxRun.{IsInboxRun};
-ghost use Rattle.dash_stage.specs.Staged.{IsStaged, IsStagedByClock};
+ghost use Rattle.run_model.specs.Run.{IsStaged};
+ghost use Rattle.run_model.specs.ByClock.{IsStagedByClock};
 ghost use Rattle.value_animator.specs.Plans.{AreValues};
 ghost use Rattle.value_animator.specs.Run.{IsRunOf};
 
@@ -40,7 +43,8 @@ pub(crate) struct Returned {
 
 impl Returned {
     ghost use Rattle.std.specs.Prelude.{◌≡◌};
-    ghost use Rattle.dashboard_cli.specs.Returns.{nothing, only_report, only_frames, only_inbox};
+    ghost use Rattle.dashboard_cli.specs.Works.{nothing, only_report};
+    ghost use Rattle.dashboard_cli.specs.OtherWorks.{only_frames, only_inbox};
 
     pub(crate) fn nothing() -> Returned
         ensures { result ≡ nothing }

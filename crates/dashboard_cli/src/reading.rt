@@ -1,6 +1,6 @@
 // A source is read to its end, or until it has given one byte more than the limit.
 ghost use Rattle.std.specs.Prelude.{◌≡◌, ◌+◌, ◌-◌, ◌^◌, ◌<◌, IfOk, IfErr};
-ghost use Rattle.dashboard_cli.specs.Streams.{ReadsWhole};
+ghost use Rattle.dashboard_cli.specs.Works.{ReadsWhole};
 ghost use Rattle.dashboard_cli.specs.Partial.{ReadsPart, Counts};
 
 use loop_io::Source;

@@ -2,10 +2,9 @@
 ghost use Rattle.std.specs.Prelude.{◌≡◌, ◌≢◌, IsTrue, None};
 ghost use Rattle.loop_io.specs.Causes.{Rose};
 ghost use Rattle.dashboard_cli.specs.Answers.{is_refusal, writes_nothing, AllOf, Completes, CountsReads, CountsWrites, IsOf, IsRefused, IsTooLong, IsWithin};
-ghost use Rattle.dashboard_cli.specs.Answers.{WritesWholeAtOk, WritesFrontAtFault};
-ghost use Rattle.dashboard_cli.specs.Works.{work};
-ghost use Rattle.dashboard_cli.specs.Returns.{returned, nothing};
-ghost use Rattle.dashboard_cli.specs.Words.{texts, IsListed};
+ghost use Rattle.dashboard_cli.specs.Answers.{WritesWholeAtOk, WritesFrontAtFault, returned};
+ghost use Rattle.dashboard_cli.specs.Words.{work, texts, IsListed};
+ghost use Rattle.dashboard_cli.specs.Works.{nothing};
 
 use crate::making::{Returned, produce};
 use crate::status::Status;

@@ -20,10 +20,11 @@ use Rattle.loop_model.specs.Entries.{moment_of, is_halted}
 use Rattle.loop_model.specs.Answers.{quit_place}
 use Rattle.loop_model.specs.Pick.{first_eligible}
 use Rattle.loop_model.proofs.AfterLaws.{clock-snoc}
-use Rattle.run_model.specs.Asks.{entries_by}
+use Rattle.run_model.specs.Planned.{entries_by}
 use Rattle.dash_script.specs.declared.script.Script.{Script}
-use Rattle.run_model.specs.Moves.{is_planned_time}
-use Rattle.run_model.specs.Control.{is_advance, is_halt, are_controls, is_controlled, is_quit_by_others, is_none_before, is_in_time, comes_in_time, is_called_in_time, ends_halted}
+use Rattle.run_model.specs.Control.{is_planned_time, is_advance, is_halt, are_controls, is_controlled, is_none_before, is_in_time, is_called_in_time}
+use Rattle.run_model.specs.Control.{ends_halted, is_fresh, is_reached}
+use Rattle.run_model.specs.Parts.{is_quit_by_others, comes_in_time}
 use Rattle.run_model.proofs.ControlLaws.{are_advances, are_controls-last, each_behind-snoc}
 use Rattle.run_model.proofs.RunLaws.{entries_by-own, entries_by-unchanged}
 use Rattle.inbox_queue.specs.declared.parcel.Parcel.{Parcel}
@@ -32,7 +33,6 @@ use Rattle.inbox_queue.specs.declared.main_queue.Look.TheVariants.{Taken, Waits,
 use Rattle.inbox_queue.specs.declared.main_queue.Move.{Move}
 use Rattle.inbox_queue.specs.declared.main_queue.Move.TheVariants.{There, Stays, NoMemory}
 use Rattle.inbox_queue.specs.InboxRun.{unslotted, IsPostOrLook, post_at_time, posts_after, posts_made, posts_at, is_post, is_posting, comes_first, is_due_at, moves_as_planned}
-use Rattle.run_model.specs.Fresh.{is_fresh, is_reached}
 use Rattle.run_model.proofs.FreshLaws.{fresh_moved, fresh_called, reached_on, reached_by_last}
 use Rattle.inbox_queue.specs.MainQueue.{AreSilent, time_of, GrowsBy, IsLookAt, IsMoveTo, IsHaltAt, IsPostOf, LooksOn, MovesOn, Goes, WaitsFor, HasLooked, HasDrained, HasDriven, IsUnderWay, HasMoved, HasPosted, HasEnded, HasHalted, KeepsReached, IsEarlier}
 

@@ -12,16 +12,14 @@ use Rattle.loop_model.specs.Legal.{IsLegal, AreNumbered}
 use Rattle.shared_queue.specs.Constants.{Constants}
 use Rattle.shared_queue.specs.Ends.{AreInOrder, HasCalls, AreNew}
 use Rattle.dash_script.specs.declared.script.Script.{Script}
-use Rattle.run_model.specs.Asks.{entries_by}
-use Rattle.run_model.specs.Control.{is_controlled, is_called_in_time, ends_halted, each_behind}
+use Rattle.run_model.specs.Planned.{entries_by, history_of}
+use Rattle.run_model.specs.Control.{is_controlled, is_called_in_time, ends_halted, each_behind, AreReached}
 use Rattle.run_model.specs.Run.{setting_of}
-use Rattle.run_model.specs.Histories.{history_of}
 use Rattle.inbox_queue.specs.declared.parcel.Parcel.{Parcel}
 use Rattle.inbox_queue.specs.declared.main_queue.Place.{Place}
 use Rattle.inbox_queue.specs.declared.main_queue.Hands.{Hands}
 use Rattle.inbox_queue.specs.declared.run.InboxReport.{InboxReport}
 use Rattle.inbox_queue.specs.InboxRun.{AreOfBlocks, IsInboxRun, IsPostOrLook, posts_made, comes_first, moves_as_planned}
-use Rattle.run_model.specs.Fresh.{AreReached}
 use Rattle.inbox_queue.specs.MainQueue.{IsAt, threads_of, seen, AreSilent}
 use Rattle.inbox_queue.specs.Opened.{AreIdle, IsPlayed, IsKept}
 use Rattle.inbox_queue.specs.Turned.{Sender}

@@ -16,7 +16,7 @@ use Rattle.loop_model.specs.Legal.{AreNumbered}
 use Rattle.shared_queue.specs.Constants.{made_in}
 use Rattle.shared_queue.specs.Known.{Shared, IsOf, made_by}
 use Rattle.shared_queue.specs.Ends.{AreInOrder, HasCalls, HaveSealed, AreNew}
-use Rattle.run_model.specs.Asks.{entries_by}
+use Rattle.run_model.specs.Planned.{entries_by}
 use Rattle.inbox_queue.specs.Turned.{Sender}
 use Rattle.inbox_queue.specs.MainQueue.{AreSilent}
 use Rattle.inbox_queue.specs.Opened.{AreIdle}

@@ -14,10 +14,8 @@ use Rattle.loop_model.specs.Answers.{clock}
 use Rattle.dash_script.specs.declared.script.Block.{Block}
 use Rattle.dash_script.specs.declared.script.Script.{Script}
 use Rattle.dash_script.specs.Reading.{HasText, rise}
-use Rattle.run_model.specs.Control.{is_called_in_time}
-use Rattle.run_model.specs.Moves.{is_planned_time}
+use Rattle.run_model.specs.Control.{is_called_in_time, is_planned_time, is_fresh, is_reached, AreReached}
 use Rattle.inbox_queue.specs.declared.parcel.Parcel.{Parcel}
-use Rattle.run_model.specs.Fresh.{is_fresh, is_reached, AreReached}
 use Rattle.run_model.proofs.FreshLaws.{nothing_fresh, start_reached, one_reached}
 use Rattle.inbox_queue.specs.InboxRun.{posts_made, posts_at, posts_admitted, is_posting, IsOfBlock, AreOfBlocks}
 use Rattle.inbox_queue.specs.MainQueue.{AreSilent, time_of, Goes, KeepsReached, HasMoved, HasPosted, HasHalted}

@@ -12,7 +12,7 @@ use Rattle.loop_model.specs.Legal.{AreNumbered}
 use Rattle.loop_model.proofs.NumberLaws.{AreNumbered-front, AreNumbered-last}
 use Rattle.loop_model.proofs.Prefixes.{prefix_trans, prefix_length, prefix_all}
 use Rattle.shared_queue.specs.Constants.{made_in}
-use Rattle.run_model.specs.Asks.{entries_by}
+use Rattle.run_model.specs.Planned.{entries_by}
 use Rattle.run_model.proofs.RunLaws.{entries_by-append}
 use Rattle.inbox_queue.specs.MainQueue.{AreSilent}
 

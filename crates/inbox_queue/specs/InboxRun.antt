@@ -16,11 +16,8 @@ use Rattle.loop_model.specs.Chain.{IsChainFrom}
 use Rattle.loop_model.specs.Legal.{IsLegal, AreNumbered}
 use Rattle.dash_script.specs.declared.script.Block.{Block}
 use Rattle.dash_script.specs.declared.script.Script.{Script}
-use Rattle.run_model.specs.Histories.{history_of}
-use Rattle.run_model.specs.Asks.{entries_by}
-use Rattle.run_model.specs.Control.{is_advance, is_controlled, is_called_in_time, ends_halted, each_behind}
-use Rattle.run_model.specs.Moves.{is_planned_time}
-use Rattle.run_model.specs.Fresh.{is_fresh, AreReached}
+use Rattle.run_model.specs.Planned.{history_of, entries_by}
+use Rattle.run_model.specs.Control.{is_advance, is_controlled, is_called_in_time, ends_halted, each_behind, is_planned_time, is_fresh, AreReached}
 use Rattle.run_model.specs.Run.{setting_of}
 use Rattle.inbox_queue.specs.declared.parcel.Parcel.{Parcel}
 use Rattle.inbox_queue.specs.declared.run.InboxReport.{InboxReport}

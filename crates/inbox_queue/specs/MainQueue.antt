@@ -11,10 +11,9 @@ use Rattle.loop_model.specs.Answers.{clock, quit_place}
 use Rattle.loop_model.specs.Items.{when_of}
 use Rattle.loop_model.specs.Pick.{first_eligible}
 use Rattle.shared_queue.specs.Known.{IsOf, IsSamePoster}
-use Rattle.run_model.specs.Asks.{entries_by}
+use Rattle.run_model.specs.Planned.{entries_by}
 use Rattle.dash_script.specs.declared.script.Script.{Script}
-use Rattle.run_model.specs.Control.{is_called_in_time, is_controlled, ends_halted, is_advance, each_behind}
-use Rattle.run_model.specs.Moves.{is_planned_time}
+use Rattle.run_model.specs.Control.{is_called_in_time, is_controlled, ends_halted, is_advance, each_behind, is_planned_time, is_fresh, is_reached}
 use Rattle.loop_model.specs.Entries.{moment_of}
 use Rattle.inbox_queue.specs.declared.parcel.Parcel.{Parcel}
 use Rattle.inbox_queue.specs.declared.main_queue.Place.{Place}
@@ -24,7 +23,6 @@ use Rattle.inbox_queue.specs.declared.main_queue.Look.TheVariants.{Taken, Waits,
 use Rattle.inbox_queue.specs.declared.main_queue.Move.{Move}
 use Rattle.inbox_queue.specs.declared.main_queue.Move.TheVariants.{There, Stays, NoMemory}
 use Rattle.inbox_queue.specs.InboxRun.{unslotted, IsPostOrLook, posts_made, posts_at, is_posting, comes_first, moves_as_planned}
-use Rattle.run_model.specs.Fresh.{is_fresh, is_reached}
 
 -- how many threads there are: their senders' numbers are below that of the looper
 abbrev pub threads_of : Hands → ℕ

@@ -8,14 +8,14 @@ use Rattle.loop_model.specs.Legal.{IsLegal, AreNumbered}
 use Rattle.dash_script.specs.declared.script.Script.{Script}
 use Rattle.shared_queue.specs.Known.{Shared, IsOf, made_by}
 use Rattle.atomic_table.specs.Seated.{TableId}
-use Rattle.run_model.specs.Histories.{history_of}
+use Rattle.run_model.specs.Planned.{history_of}
 use Rattle.run_model.specs.Run.{setting_of}
 use Rattle.inbox_queue.specs.declared.parcel.Parcel.{Parcel}
 use Rattle.inbox_queue.specs.declared.run.Opened.{Opened}
 use Rattle.inbox_queue.specs.declared.run.InboxRan.{InboxRan}
 use Rattle.inbox_queue.specs.declared.run.InboxRan.TheVariants as ran
 use Rattle.inbox_queue.specs.InboxRun.{AreOfBlocks, posts_made, posts_admitted, IsInboxRun}
-use Rattle.run_model.specs.Fresh.{AreReached}
+use Rattle.run_model.specs.Control.{AreReached}
 use Rattle.inbox_queue.specs.MainQueue.{IsAt, threads_of, AreSilent, HasEnded}
 use Rattle.inbox_queue.specs.Turned.{Sender}
 use Rattle.inbox_queue.specs.Bad.{bad_line}

@@ -30,7 +30,7 @@ use Rattle.frame_phases.specs.declared.entry.FrameRecord.{FrameRecord}
 use Rattle.line_words.specs.Words.{IsShort, IsLong}
 use Rattle.dash_script.specs.Reading.{IsEdition}
 use Rattle.run_model.specs.declared.report.Report.{Report as RunReport}
-use Rattle.run_model.specs.Histories.{history_of}
+use Rattle.run_model.specs.Planned.{history_of}
 use Rattle.run_picture.specs.declared.report.Past.TheVariants as past
 use Rattle.run_picture.specs.declared.line.Line.{Line}
 use Rattle.run_picture.specs.declared.line.Line.TheVariants.{Title, Looper, Past, Fates, Act, Run, End}

@@ -10,7 +10,7 @@ use Rattle.loop_model.specs.declared.journal.Journal.{Journal}
 use Rattle.loop_model.specs.declared.record.QueueRecord.{QueueRecord}
 use Rattle.loop_model.specs.Fates.{fates, is_queued, is_dispatched, is_removed, is_dropped, is_stranded}
 use Rattle.frame_phases.specs.declared.entry.FrameRecord.{FrameRecord}
-use Rattle.run_model.specs.Histories.{history_of}
+use Rattle.run_model.specs.Planned.{history_of}
 use Rattle.run_picture.specs.declared.report.Past.{Past as PastData}
 use Rattle.run_picture.specs.declared.report.Act.{Act as ActData}
 use Rattle.run_picture.specs.declared.report.Run.{Run as RunData}

@@ -22,7 +22,7 @@ use Rattle.frame_phases.specs.declared.entry.FrameEntry.{FrameEntry}
 use Rattle.frame_phases.specs.declared.entry.FrameEntry.TheVariants as entry
 use Rattle.frame_phases.specs.declared.entry.FrameRecord.{FrameRecord}
 use Rattle.run_model.specs.declared.report.Report.{Report as RunReport}
-use Rattle.run_model.specs.Histories.{history_of}
+use Rattle.run_model.specs.Planned.{history_of}
 use Rattle.run_model.specs.Text as printed
 use Rattle.run_picture.specs.declared.report.Past.{Past as PastData}
 use Rattle.run_picture.specs.declared.report.Past.TheVariants as seen_past
@@ -42,7 +42,7 @@ subject_same what (Some c) = refl
 
 dispatch_same : (now n : ℕ) (o : Option PostData)
     → map past_words (option_map_or (λ p. seen_past.Dispatch now n p.handler (subject_of p.what p.callback) ∷ []) o [])
-    ≡ option_map_or (λ p. printed.dispatch_words now n p ∷ []) o []
+    ≡ option_map_or (λ p. (decimal now ∷ codes "dispatch" ∷ decimal n ∷ printed.subject p) ∷ []) o []
 dispatch_same now n None = refl
 dispatch_same now n (Some p) = ap (λ ws. (decimal now ∷ codes "dispatch" ∷ decimal n ∷ decimal p.handler ∷ ws) ∷ []) (subject_same p.what p.callback)
 
@@ -140,7 +140,7 @@ acts_through (a ∷ more) = ap (λ ws. act_words a ∷ ws) (acts_through more)
 abbrev run_line : RunData → List (List ℕ)
 run_line r = line_words (Run r)
 
-run_same : (o : Option Callback) → map run_line (option_map_or (λ c. run_of c ∷ []) o []) ≡ option_map_or (λ c. printed.run_words c ∷ []) o []
+run_same : (o : Option Callback) → map run_line (option_map_or (λ c. run_of c ∷ []) o []) ≡ option_map_or (λ c. (codes "run" ∷ decimal c.phase ∷ decimal c.id ∷ []) ∷ []) o []
 run_same None = refl
 run_same (Some c) = refl
 
@@ -161,7 +161,7 @@ frames_same cs (entry.Ran n ∷ es) =
     ap (λ ws. ws ++ rest) (map-append run_line first (runs_first cs es))
     ∙ (append_assoc (map run_line first) (map run_line (runs_first cs es)) rest
     ∙ (ap (λ ws. ws ++ (map run_line (runs_first cs es) ++ rest)) (run_same (slice_get cs n))
-    ∙ ap (λ ws. option_map_or (λ c. printed.run_words c ∷ []) (slice_get cs n) [] ++ ws) (frames_same cs es)))
+    ∙ ap (λ ws. option_map_or (λ c. (codes "run" ∷ decimal c.phase ∷ decimal c.id ∷ []) ∷ []) (slice_get cs n) [] ++ ws) (frames_same cs es)))
 frames_same cs (entry.Posted c ∷ es) = frames_same cs es
 frames_same cs (entry.Removed phase id token count ∷ es) = frames_same cs es
 frames_same cs (entry.Take phase now time ∷ es) = frames_same cs es

@@ -5,7 +5,7 @@ use Rattle.loop_model.specs.declared.record.QueueRecord.{QueueRecord}
 use Rattle.frame_phases.specs.declared.entry.FrameRecord.{FrameRecord}
 use Rattle.loop_model.specs.Fates.{fates}
 use Rattle.dash_script.specs.Reading.{HasText}
-use Rattle.run_model.specs.Histories.{history_of}
+use Rattle.run_model.specs.Planned.{history_of}
 use Rattle.run_model.specs.declared.report.Report.{Report as RunReport}
 use Rattle.run_model.specs.Text as printed
 use Rattle.run_model.specs.Moments.{Mode}

@@ -20,7 +20,7 @@ use Rattle.frame_phases.specs.declared.entry.FrameEntry.{FrameEntry}
 use Rattle.frame_phases.specs.declared.entry.FrameEntry.TheVariants as entry
 use Rattle.frame_phases.specs.declared.entry.FrameRecord.{FrameRecord}
 use Rattle.run_model.specs.declared.report.Report.{Report as RunReport}
-use Rattle.run_model.specs.Histories.{history_of}
+use Rattle.run_model.specs.Planned.{history_of}
 use Rattle.run_model.specs.Text.{posted_callback}
 use Rattle.run_picture.specs.declared.report.Subject.{Subject}
 use Rattle.run_picture.specs.declared.report.Subject.TheVariants as subject

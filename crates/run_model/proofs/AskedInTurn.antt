@@ -15,12 +15,12 @@ use Rattle.frame_phases.specs.Parting.{dealt_to, AreParted}
 use Rattle.dash_script.specs.declared.script.Line.{Line}
 use Rattle.dash_script.specs.declared.script.Block.{Block}
 use Rattle.dash_script.specs.declared.script.Script.{Script}
-use Rattle.run_model.specs.Planned.{Timed, lines_in, lines_of, frame_due}
-use Rattle.run_model.specs.FrameRuns.{FrameAt, nanos_of}
-use Rattle.run_model.specs.Loopers.{Looper}
-use Rattle.run_model.specs.FrameAsks.{FrameAsk, Posts, Removes, Runs, asked_in, asks_in, asks_to_run, line_asks, lines_ask, as_told}
-use Rattle.run_model.specs.FrameTurns.{TimedAsk, in_block, in_round, lines_ask_then, asked_for, asked_in_rounds, asked_then, timed_as_told, AreAskedInTurn}
-use Rattle.run_model.specs.AskedSoFar.{Rise, second, timed_of, asks_of, HaveAsked, asked_so_far}
+use Rattle.run_model.specs.Planned.{Timed, lines_of, frame_due}
+use Rattle.run_model.specs.Parts.{lines_in, asks_to_run}
+use Rattle.run_model.specs.FrameRecords.{FrameAt, nanos_of, FrameAsk, Posts, Removes, Runs, asked_in, asks_in, line_asks, as_told, TimedAsk, in_block, in_round}
+use Rattle.run_model.specs.FrameRecords.{lines_ask_then, asked_for, asked_in_rounds, timed_as_told, AreAskedInTurn}
+use Rattle.run_model.specs.Loopers.{Looper, asked_then}
+use Rattle.run_model.specs.AskedSoFar.{lines_ask, Rise, second, timed_of, asks_of, HaveAsked, asked_so_far}
 
 -- ---- lists
 

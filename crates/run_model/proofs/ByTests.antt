@@ -15,12 +15,11 @@ use Rattle.loop_model.specs.Chain.{IsChainFrom}
 use Rattle.loop_model.specs.Answers.{Setting, clock, answer}
 use Rattle.loop_model.specs.Legal.{IsMoment, IsTimely, IsLegal, IsLegalAfter, made_count, is_control, AreNumbered, AreNumberedAfter}
 use Rattle.dash_script.specs.declared.script.Script.{Script}
-use Rattle.run_model.specs.Histories.{history_of}
-use Rattle.run_model.specs.Asks.{plain, call_of, token_in, entries_by, AreFor}
-use Rattle.run_model.specs.Senders.{sender_count}
+use Rattle.run_model.specs.Planned.{history_of, plain, call_of, token_in, entries_by, AreFor, sender_count, Timed, lines_of, labels_on, lines_on, planned}
+use Rattle.run_model.specs.Planned.{IsNoEarlier, IsPlanned}
 use Rattle.run_model.specs.Moments.{in_lockstep}
-use Rattle.run_model.specs.Planned.{Timed, lines_of, labels_on, lines_on, planned, IsNoEarlier, IsPlanned}
-use Rattle.run_model.specs.Run.{setting_of, IsRecordOf, all_entries}
+use Rattle.run_model.specs.Run.{setting_of, IsRecordOf}
+use Rattle.run_model.specs.Parts.{all_entries}
 
 -- the replies that a queue gives, behind these entries
 abbrev pub answers : Setting → Base → List Entry → List Entry → List (Option Reply)

@@ -17,13 +17,13 @@ use Rattle.loop_model.specs.declared.journal.Journal.{Journal}
 use Rattle.loop_model.specs.declared.record.QueueRecord.{QueueRecord}
 use Rattle.run_model.specs.declared.report.Report.{Report}
 use Rattle.run_model.specs.Control.{is_controlled, are_before_quit}
-use Rattle.run_model.specs.Moments.{Mode, in_free_mode, AreOfClock}
-use Rattle.run_model.specs.Planned.{AreAsPlanned}
-use Rattle.run_model.specs.FrameTurns.{asked_then, timed_as_told}
+use Rattle.run_model.specs.Moments.{Mode}
+use Rattle.run_model.specs.Parts.{AreOfClock, AreAsPlanned, all_entries}
+use Rattle.run_model.specs.ByClock.{in_free_mode}
+use Rattle.run_model.specs.Loopers.{asked_then, after_act, first_looper}
+use Rattle.run_model.specs.FrameRecords.{timed_as_told}
 use Rattle.run_model.proofs.AskedInTurn.{rising_sorted}
-use Rattle.run_model.specs.Acts.{after_act}
-use Rattle.run_model.specs.Loopers.{first_looper}
-use Rattle.run_model.specs.Run.{IsRun, IsRecordOf, IsControlled, IsFrameRun, IsLooperRun, all_entries, setting_of}
+use Rattle.run_model.specs.Run.{IsRun, IsRecordOf, IsControlled, IsFrameRun, IsLooperRun, setting_of}
 use Rattle.run_model.specs.Text.{text, lines}
 use Rattle.run_model.proofs.Below.{each_below}
 use Rattle.run_model.proofs.Table.{led}

@@ -9,8 +9,8 @@ use Rattle.loop_model.specs.declared.entry.Entry.{Entry}
 use Rattle.loop_model.specs.Entries.{moment_of}
 use Rattle.loop_model.proofs.Sorting.{AllByRecursion-append, AllByRecursion-weaker}
 use Rattle.dash_script.specs.declared.script.Block.{Block}
-use Rattle.run_model.specs.Control.{is_advance}
-use Rattle.run_model.specs.Fresh.{fresh_behind, is_fresh, moves_to, is_reached, AreReached}
+use Rattle.run_model.specs.Control.{is_advance, is_fresh, is_reached, AreReached}
+use Rattle.run_model.specs.Parts.{fresh_behind, moves_to}
 
 -- one more entry
 fresh-snoc : (theirs : Entry → Bool) (es : List Entry) (e : Entry) → is_fresh theirs (es ++ e ∷ []) ≡ fresh_behind theirs (is_fresh theirs es) e

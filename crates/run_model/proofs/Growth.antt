@@ -9,8 +9,7 @@ use Rattle.frame_phases.specs.declared.entry.FrameEntry.{FrameEntry}
 use Rattle.dash_script.specs.declared.script.Script.{Script}
 use Rattle.loop_model.specs.declared.journal.Act.{Act}
 use Rattle.loop_model.specs.declared.journal.Act.TheVariants.{Dispatch, Idle, Event, Vsync, Paint}
-use Rattle.run_model.specs.Loopers.{Looper, starts_frame}
-use Rattle.run_model.specs.Acts.{dispatched, after_act, MayCome, Lead}
+use Rattle.run_model.specs.Loopers.{Looper, starts_frame, dispatched, after_act, MayCome, Lead}
 
 pub slice_get-append : {X : Type 0} (xs ys : List X) (i : ℕ) → is_some (slice_get xs i) ≡ true → slice_get (xs ++ ys) i ≡ slice_get xs i
 slice_get-append [] ys i h = cc

@@ -12,9 +12,8 @@ use Rattle.loop_model.specs.Posts.{post_at}
 use Rattle.frame_phases.specs.declared.entry.FrameEntry.{FrameEntry}
 use Rattle.frame_phases.specs.Pulses.{comes_after}
 use Rattle.dash_script.specs.declared.script.Script.{Script}
-use Rattle.run_model.specs.Loopers.{Looper, starts_frame}
-use Rattle.run_model.specs.Acts.{Lead, MayCome, after_act, dispatched}
-use Rattle.run_model.specs.FrameRuns.{is_begin, has_stamp}
+use Rattle.run_model.specs.Loopers.{Looper, starts_frame, Lead, MayCome, after_act, dispatched}
+use Rattle.run_model.specs.FrameRecords.{is_begin, has_stamp}
 
 -- the places at which frames begin
 abbrev begins_from : ℕ → List FrameEntry → List (Option ℕ)

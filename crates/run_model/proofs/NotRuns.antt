@@ -15,9 +15,8 @@ use Rattle.run_model.specs.Run.{IsRun, caused_on}
 use Rattle.loop_model.specs.declared.journal.Act.{Act}
 use Rattle.loop_model.specs.declared.journal.Act.TheVariants as act
 use Rattle.loop_model.specs.declared.journal.Route.TheVariants as route
-use Rattle.run_model.specs.Asks.{AreFor, entries_by}
-use Rattle.run_model.specs.Loopers.{Looper}
-use Rattle.run_model.specs.Acts.{IsSent, after_act}
+use Rattle.run_model.specs.Planned.{AreFor, entries_by}
+use Rattle.run_model.specs.Loopers.{Looper, IsSent, after_act}
 use Rattle.run_model.proofs.Examples.{entry, message}
 use Rattle.run_model.specs.Moments.{in_lockstep}
 use Rattle.run_model.proofs.Table.{acting, report_of}

@@ -13,11 +13,10 @@ use Rattle.dash_script.specs.declared.script.Command.{Command}
 use Rattle.dash_script.specs.declared.script.Command.TheVariants as command
 use Rattle.dash_script.specs.declared.script.Line.{Line}
 use Rattle.dash_script.specs.declared.script.Script.{Script}
-use Rattle.run_model.specs.Histories.{history_of}
+use Rattle.run_model.specs.Planned.{history_of}
 use Rattle.run_model.specs.Moments.{in_lockstep}
-use Rattle.run_model.specs.Loopers.{Looper, first_looper}
-use Rattle.run_model.specs.FrameAsks.{asks_in}
-use Rattle.run_model.specs.FrameTurns.{asked_then}
+use Rattle.run_model.specs.Loopers.{Looper, first_looper, asked_then}
+use Rattle.run_model.specs.FrameRecords.{asks_in}
 use Rattle.run_model.specs.Run.{IsRun}
 use Rattle.run_model.proofs.Examples.{entry, frame_message, halted_at, handler_on, block, by, plain_script, callback}
 use Rattle.run_model.proofs.RunBut as but

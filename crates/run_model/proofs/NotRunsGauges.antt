@@ -13,7 +13,7 @@ use Rattle.dash_script.specs.declared.script.Command.TheVariants as command
 use Rattle.dash_script.specs.declared.script.Script.{Script}
 use Rattle.run_model.specs.Moments.{in_lockstep}
 use Rattle.run_model.specs.Loopers.{Looper, first_looper}
-use Rattle.run_model.specs.FrameRuns.{are_run_then, are_whole}
+use Rattle.run_model.specs.FrameRecords.{are_run_then, are_whole}
 use Rattle.run_model.specs.Run.{IsRun}
 use Rattle.run_model.proofs.Examples.{entry, handler_on, block, by, plain_script, message, frame_message, callback}
 use Rattle.run_model.proofs.RunBut.{Clause}

@@ -6,7 +6,7 @@ use Rattle.std.proofs.lemmas.Bool.Decides.{nat_tests}
 use Rattle.loop_model.specs.declared.reply.Reply.TheVariants as reply
 use Rattle.dash_script.specs.declared.script.Script.{Script}
 use Rattle.run_model.specs.Moments.{in_lockstep}
-use Rattle.run_model.specs.Moves.{IsPulseTime}
+use Rattle.run_model.specs.Control.{IsPulseTime}
 use Rattle.run_model.specs.Run.{IsRun}
 use Rattle.run_model.proofs.Examples.{handler_on, plain_script}
 use Rattle.run_model.proofs.RunBut as but

@@ -11,8 +11,7 @@ use Rattle.dash_script.specs.declared.script.Command.TheVariants as command
 use Rattle.dash_script.specs.declared.script.Script.{Script}
 use Rattle.run_model.specs.Moments.{in_lockstep}
 use Rattle.run_model.specs.Control.{befores, are_on_time}
-use Rattle.run_model.specs.Loopers.{Looper, first_looper}
-use Rattle.run_model.specs.Acts.{after_act, Lead}
+use Rattle.run_model.specs.Loopers.{Looper, first_looper, after_act, Lead}
 use Rattle.run_model.specs.Run.{IsRun, caused_on}
 use Rattle.run_model.proofs.Examples.{entry, handler_on, block, by, plain_script, message}
 use Rattle.run_model.proofs.RunBut as but

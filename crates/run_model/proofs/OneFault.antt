@@ -5,11 +5,11 @@ use Rattle.std.specs.List.{AllByRecursion, list_all}
 use Rattle.std.proofs.lemmas.Bool.{and_parts, not-true}
 use Rattle.loop_model.specs.declared.record.QueueRecord.{QueueRecord}
 use Rattle.dash_script.specs.declared.script.Script.{Script}
-use Rattle.run_model.specs.Histories.{history_of}
-use Rattle.run_model.specs.Senders.{controller}
+use Rattle.run_model.specs.Planned.{history_of, controller}
 use Rattle.run_model.specs.Moments.{in_lockstep}
 use Rattle.run_model.specs.Control.{is_called_in_time, are_before_quit}
-use Rattle.run_model.specs.Run.{IsRun, IsBeforeQuit, IsTimely, are_in_order}
+use Rattle.run_model.specs.Run.{IsRun, IsTimely, are_in_order}
+use Rattle.run_model.specs.Parts.{IsBeforeQuit}
 use Rattle.run_model.proofs.RunBut.{Clause, IsRunBut}
 use Rattle.run_model.proofs.Table.{Row, report_of, queues_from, found, wanted, run_but_by, firsts, others, down_from, has_called_then}
 

@@ -7,8 +7,7 @@ use Rattle.std.proofs.lemmas.Bool.{and_parts, and_from, or_cases, eqb-true, leb-
 use mathlib.Core.Logic.{dite}
 use native.Mathlib.Decide.{ℕ_discrete}
 use Rattle.frame_phases.specs.Parting.{dealt_to}
-use Rattle.run_model.specs.FrameAsks.{FrameAsk, Posts, Removes, Runs, as_told}
-use Rattle.run_model.specs.FrameTurns.{TimedAsk, timed_as_told, AreAskedInTurn}
+use Rattle.run_model.specs.FrameRecords.{FrameAsk, Posts, Removes, Runs, as_told, TimedAsk, timed_as_told, AreAskedInTurn}
 use Rattle.run_model.specs.AskedSoFar.{Rise, asks_of, timed_of}
 use Rattle.run_model.proofs.AskedInTurn.{rising_sorted, sorted_rising}
 

@@ -18,18 +18,14 @@ use Rattle.frame_phases.specs.Pulses.{are_stamped}
 use Rattle.dash_script.specs.declared.script.Script.{Script}
 use Rattle.dash_script.specs.Causes.{phase_count}
 use Rattle.run_model.specs.declared.report.Report.{Report}
-use Rattle.run_model.specs.Histories.{history_of}
-use Rattle.run_model.specs.Asks.{AreFor, entries_by}
-use Rattle.run_model.specs.Senders.{looper_sender, controller}
+use Rattle.run_model.specs.Planned.{history_of, AreFor, entries_by, looper_sender, controller}
 use Rattle.run_model.specs.Moments.{in_lockstep}
-use Rattle.run_model.specs.Control.{is_called_in_time, are_before_quit, befores, are_on_time}
-use Rattle.run_model.specs.Loopers.{Looper, first_looper}
-use Rattle.run_model.specs.Acts.{MayCome, after_act, Lead, IsSent}
-use Rattle.run_model.specs.Moves.{Move, moves, move_times, main_moves, MayMoveTo}
-use Rattle.run_model.specs.FrameRuns.{are_run_then, are_whole}
-use Rattle.run_model.specs.FrameAsks.{asks_in}
-use Rattle.run_model.specs.FrameTurns.{TimedAsk, asked_then, AreAskedInTurn}
-use Rattle.run_model.specs.Run.{IsReportOf, AreRecordsOf, all_entries, ArePlannedOf, AreControlsOf, IsFrameRun, caused_on, IsLooperRun, EachLooper, IsThreadOnTime, are_in_order, IsBeforeQuit, IsTimely, main_ends_halted, IsRun}
+use Rattle.run_model.specs.Control.{is_called_in_time, are_before_quit, befores, are_on_time, Move, moves, move_times, main_moves, MayMoveTo}
+use Rattle.run_model.specs.Loopers.{Looper, first_looper, MayCome, after_act, Lead, IsSent, asked_then}
+use Rattle.run_model.specs.FrameRecords.{are_run_then, are_whole, asks_in, TimedAsk, AreAskedInTurn}
+use Rattle.run_model.specs.Run.{IsReportOf, AreRecordsOf, IsAsPlanned, IsControlled, IsFrameRun, caused_on, IsLooperRun, EachLooper, are_in_order, IsTimely}
+use Rattle.run_model.specs.Run.{main_ends_halted, IsRun}
+use Rattle.run_model.specs.Parts.{all_entries, IsThreadOnTime, IsBeforeQuit}
 
 -- a clause of the definition, left out or kept
 pub data Clause : Type 0 where
@@ -182,8 +178,8 @@ pub record AreMovedBut (out : Clause) (s : Script) (all : List (List Move)) : Ty
 pub record IsRunBut (out : Clause) (s : Script) (r : Report) : Type 0 where
   pub report : IsReportOf s r
   pub records : AreRecordsOf in_lockstep all_entries s r
-  pub planned : ArePlannedOf in_lockstep s r
-  pub controls : AreControlsOf s r
+  pub planned : AllByRecursion (IsAsPlanned in_lockstep s) r.queues
+  pub controls : AllByRecursion (IsControlled s) r.queues
   pub frames : AllByRecursion (IsFrameRunBut out s) r.frames
   pub loopers : EachLooper (IsLooperRunBut out s r.queues) r.queues r.journals r.frames
   pub halted : main_ends_halted r.queues ≡ true

@@ -9,12 +9,12 @@ use Rattle.frame_phases.specs.declared.entry.FrameEntry.{FrameEntry}
 use Rattle.dash_script.specs.declared.script.Script.{Script}
 use Rattle.loop_model.specs.declared.journal.Act.{Act}
 use Rattle.loop_model.specs.declared.journal.Act.TheVariants.{Dispatch, Idle, Event, Vsync, Paint}
-use Rattle.run_model.specs.Asks.{token_in, tokens_in, entries_by, AreFor}
+use Rattle.run_model.specs.Planned.{token_in, entries_by, AreFor, Timed, lines_on, IsPlanned}
+use Rattle.run_model.specs.AskedSoFar.{tokens_in}
 use Rattle.run_model.specs.Moments.{Mode}
-use Rattle.run_model.specs.Planned.{Timed, lines_on, IsPlanned, MakeCalls}
-use Rattle.run_model.specs.Loopers.{Looper, Sent}
-use Rattle.run_model.specs.Acts.{after_act, MayCome, Lead, sent_on}
-use Rattle.run_model.specs.Control.{Before, Timing, before, befores, befores_from, befores_after, are_on_time}
+use Rattle.run_model.specs.Parts.{MakeCalls, sent_on, befores_after}
+use Rattle.run_model.specs.Loopers.{Looper, Sent, after_act, MayCome, Lead}
+use Rattle.run_model.specs.Control.{Before, Timing, before, befores, befores_from, are_on_time}
 
 -- a sender's entries in a longer history
 pub entries_by-append : (k : ℕ) (xs ys : List Entry) → entries_by k (xs ++ ys) ≡ entries_by k xs ++ entries_by k ys

@@ -30,19 +30,14 @@ use Rattle.dash_script.specs.declared.script.Block.{Block}
 use Rattle.dash_script.specs.declared.script.Script.{Script}
 use Rattle.dash_script.specs.Causes.{phase_count}
 use Rattle.run_model.specs.declared.report.Report.{Report}
-use Rattle.run_model.specs.Histories.{history_of}
-use Rattle.run_model.specs.Asks.{AreFor, plain, call_of, token_in, entries_by}
-use Rattle.run_model.specs.Senders.{looper_sender, controller, sender_count}
+use Rattle.run_model.specs.Planned.{history_of, AreFor, plain, call_of, token_in, entries_by, looper_sender, controller, sender_count, lines_of, labels_on}
 use Rattle.run_model.specs.Moments.{in_lockstep}
-use Rattle.run_model.specs.Planned.{lines_of, labels_on}
-use Rattle.run_model.specs.Control.{InBlock, is_controlled, is_called_in_time, are_before_quit, befores, are_on_time}
-use Rattle.run_model.specs.Loopers.{Looper, Sent, first_looper, starts_frame}
-use Rattle.run_model.specs.Acts.{IsSent, MayCome, after_act, dispatched, millis_up}
-use Rattle.run_model.specs.Moves.{Move, moves, move_times, main_moves, is_planned_time, was_due_at, MayMoveTo}
-use Rattle.run_model.specs.FrameRuns.{is_frame_from, has_stamp, are_run_then, are_whole}
-use Rattle.run_model.specs.FrameAsks.{asks_in}
-use Rattle.run_model.specs.FrameTurns.{asked_then}
-use Rattle.run_model.specs.Run.{IsRun, IsRecordOf, IsAsPlanned, IsControlled, EachLooper, all_entries, setting_of, caused_on, are_in_order, main_ends_halted}
+use Rattle.run_model.specs.Control.{InBlock, is_controlled, is_called_in_time, are_before_quit, befores, are_on_time, Move, moves, move_times, main_moves}
+use Rattle.run_model.specs.Control.{is_planned_time, was_due_at, MayMoveTo}
+use Rattle.run_model.specs.Loopers.{Looper, Sent, first_looper, starts_frame, IsSent, MayCome, after_act, dispatched, asked_then}
+use Rattle.run_model.specs.FrameRecords.{millis_up, is_frame_from, has_stamp, are_run_then, are_whole, asks_in}
+use Rattle.run_model.specs.Run.{IsRun, IsRecordOf, IsAsPlanned, IsControlled, EachLooper, setting_of, caused_on, are_in_order, main_ends_halted}
+use Rattle.run_model.specs.Parts.{all_entries}
 use Rattle.run_model.specs.Text.{text, lines}
 use Rattle.run_model.proofs.Below.{EachBelow, each_below}
 use Rattle.run_model.proofs.Parting.{can_ask_in_turn, asks_are_in_turn}

@@ -1,12 +1,12 @@
--- What was asked of a choreographer so far: by whom, when, and in turn.
+-- What was asked so far: of a choreographer by whom, when, and in turn; and the tokens that a queue answered.
 use Rattle.std.specs.Prelude.{◌≡◌, ℕ, ◌≤◌, nat_lt, List, [], ◌∷◌, map, if◌then◌else◌}
-use Rattle.std.specs.List.{AllByRecursion}
+use Rattle.std.specs.List.{AllByRecursion, filter_map, flat_map}
+use Rattle.loop_model.specs.declared.entry.Entry.{Entry}
 use Rattle.frame_phases.specs.declared.entry.FrameEntry.{FrameEntry}
 use Rattle.frame_phases.specs.Parting.{dealt_to}
 use Rattle.dash_script.specs.declared.script.Block.{Block}
-use Rattle.run_model.specs.Planned.{lines_of}
-use Rattle.run_model.specs.FrameAsks.{FrameAsk, asks_in}
-use Rattle.run_model.specs.FrameTurns.{TimedAsk, lines_ask_then, asked_in_rounds}
+use Rattle.run_model.specs.FrameRecords.{line_asks, FrameAsk, asks_in, TimedAsk, lines_ask_then, asked_in_rounds}
+use Rattle.run_model.specs.Planned.{token_in, lines_of, Timed}
 
 -- the first of these asks is made no earlier than this time, and none before the one that it stands behind
 abbrev pub Rise : ℕ → List TimedAsk → Type 0
@@ -36,3 +36,11 @@ pub record HaveAsked (last : ℕ) (made : List (ℕ × FrameEntry)) (by : ℕ �
 -- what each sender has asked for: the threads, of which there are so many, by their lines of these blocks, and the others as these entries tell, in rounds
 abbrev pub asked_so_far : ℕ → ℕ → List Block → List (ℕ × FrameEntry) → ℕ → List TimedAsk
 asked_so_far threads q past made k = if nat_lt k threads then lines_ask_then q (lines_of k past) else asked_in_rounds (asks_in (dealt_to k made))
+
+-- what lines ask of it, in order
+abbrev pub lines_ask : ℕ → List Timed → List FrameAsk
+lines_ask looper ls = filter_map (line_asks looper) ls
+
+-- the tokens that these entries were answered
+abbrev pub tokens_in : List Entry → List ℕ
+tokens_in es = flat_map (λ e. token_in e.reply) es

@@ -1,23 +1,26 @@
--- What a looper comes to: its gauges, its traversal, its rules, and the calls and frame callbacks that each step adds.
-use Rattle.std.specs.Prelude.{ℕ, ◌+◌, ◌-◌, ◌==◌, min, Bool, true, false, ◌&&◌, ◌||◌, not, nat_lt, nat_le, List, [], ◌∷◌, ◌++◌, Option, Some, None}
-use Rattle.std.specs.Prelude.{is_some, map, fold, slice_get, slice_set, replicate, length, if◌then◌else◌}
-use Rattle.std.specs.List.{filter_map, zip, enumerate_from}
-use Rattle.std.specs.Option.{option_map_or}
+-- What a looper comes to: its gauges, its traversal, its rules, and the calls and frame callbacks that each act in its journal causes.
+use Rattle.std.specs.Prelude.{ℕ, ◌+◌, ◌-◌, ◌==◌, min, Bool, true, false, ◌&&◌, ◌||◌, not, nat_lt, nat_le, List, [], ◌∷◌, ◌++◌, Option, Some, None, is_some, map}
+use Rattle.std.specs.Prelude.{fold, slice_get, slice_set, replicate, length, if◌then◌else◌, ◌≡◌, ◌/◌}
+use Rattle.std.specs.List.{filter_map, zip, enumerate_from, range_with_len}
+use Rattle.std.specs.Option.{option_map_or, MatchOption}
 use Rattle.loop_model.specs.declared.post.Post.{Post as PostData}
 use Rattle.loop_model.specs.declared.call.Call.TheVariants.{Post, Barrier, Next}
 use Rattle.loop_model.specs.declared.reply.Reply.{Reply}
-use Rattle.loop_model.specs.declared.reply.Reply.TheVariants.{Dispatched}
-use Rattle.loop_model.specs.Posts.{moment_after}
+use Rattle.loop_model.specs.declared.reply.Reply.TheVariants.{Dispatched, Disposed}
+use Rattle.loop_model.specs.Posts.{moment_after, post_at}
+use Rattle.loop_model.specs.declared.journal.Act.{Act}
+use Rattle.loop_model.specs.declared.journal.Act.TheVariants.{Paint, Dispatch, Idle, Event, Vsync}
+use Rattle.loop_model.specs.declared.entry.Entry.{Entry}
+use Rattle.frame_phases.specs.declared.entry.FrameEntry.{FrameEntry}
+use Rattle.frame_phases.specs.Frames.{is_pulse}
+use Rattle.frame_phases.specs.Pulses.{comes_after}
 use Rattle.dash_script.specs.declared.script.Rule.{Rule}
 use Rattle.dash_script.specs.declared.script.Script.{Script}
-use Rattle.loop_model.specs.declared.journal.Act.{Act}
-use Rattle.loop_model.specs.declared.journal.Act.TheVariants.{Paint}
-use Rattle.run_model.specs.Asks.{Ask, Makes, Unbars}
-use Rattle.run_model.specs.Senders.{looper_of, gauge_line, gauge_looper, frame_handler, animation_id, animation_phase, traversal_id, traversal_phase}
-use Rattle.run_model.specs.Planned.{sent_by, frame_due}
-use Rattle.run_model.specs.FrameAsks.{FrameAsk, Posts}
-use Rattle.run_model.specs.Control.{Timing, At}
-use Rattle.run_model.specs.FrameRuns.{FrameAt}
+use Rattle.run_model.specs.FrameRecords.{TimedAsk, asked_in_rounds, lines_ask_then, millis_up, FrameAsk, Posts, FrameAt, frame_ids, is_frame_from, has_stamp}
+use Rattle.run_model.specs.FrameRecords.{place_after, frames_after, Runs, nanos_of}
+use Rattle.run_model.specs.Planned.{Ask, Makes, Unbars, plain, call_of, looper_of, gauge_line, gauge_looper, frame_handler, animation_id, animation_phase}
+use Rattle.run_model.specs.Planned.{traversal_id, traversal_phase, sent_by, frame_due, frame_message, lines_of}
+use Rattle.run_model.specs.Control.{Timing, At, NotBefore}
 
 pub record Gauge : Type 0 where
   pub value : ℕ
@@ -72,11 +75,10 @@ first_looper s = record {
   frames = [];
 }
 
--- one call more, at a moment
+-- one call more, at a moment; one frame callback more, due at once; and another state of a gauge
 abbrev pub and_sends : ℕ → ℕ → Ask → Looper → Looper
 and_sends queue now ask a = record a { sent = a.sent ++ record { queue = queue; ask = ask; reply = None; timing = At now } ∷ [] }
 
--- one frame callback more, due at once
 abbrev pub and_posts_frame : ℕ → ℕ → ℕ → Looper → Looper
 and_posts_frame now phase id a = record a { posted = a.posted ++ Posts phase (frame_due now 0) id None ∷ [] }
 
@@ -90,37 +92,31 @@ traversal_requested s q now a =
     else and_posts_frame now (traversal_phase s) traversal_id
     (and_sends q now (Makes (Barrier 0)) (record a { barrier = Some a.barriers; barriers = a.barriers + 1 }))
 
--- a message sets the target of gauge g, which begins to animate where it stands still elsewhere
+-- a message with an object sets the target of that gauge, which begins to animate where it stands still elsewhere; nothing where that is no gauge of the looper
 abbrev pub target_set : Script → ℕ → ℕ → ℕ → ℕ → Gauge → Looper → Looper
 target_set s q now g target x a =
     if x.animating || x.value == target then with_gauge g (record x { target = target }) a
     else traversal_requested s q now
     (and_posts_frame now animation_phase (animation_id g) (with_gauge g (record { value = x.value; target = target; animating = true }) a))
 
--- a message with an object: nothing where that is no gauge of the looper
 abbrev pub object_set : Script → ℕ → ℕ → ℕ → ℕ → Looper → Looper
 object_set s q now g target a =
     if gauge_looper s g == q then option_map_or (λ x. target_set s q now g target x a) (slice_get a.gauges g) a else a
 
--- a value moved towards a target by a step, but not past it
+-- the callback of a gauge that is animating moves it by a step towards its target, but not past it, requests a traversal, and posts itself again or stops there
 abbrev pub moved : ℕ → ℕ → ℕ → ℕ
 moved step target value = if nat_le value target then min (value + step) target else value - min step (value - target)
 
--- the callback of a gauge that is animating moves it, requests a traversal, and posts itself again or stops there
 abbrev pub gauge_moved : Script → ℕ → ℕ → ℕ → Gauge → Looper → Looper
 gauge_moved s q now g x a =
     let value = moved (gauge_line s g).step x.target x.value in
     if value == x.target then traversal_requested s q now (with_gauge g (record { value = value; target = x.target; animating = false }) a)
     else and_posts_frame now animation_phase (animation_id g) (traversal_requested s q now (with_gauge g (record x { value = value }) a))
 
-abbrev pub animation_ran : Script → ℕ → ℕ → ℕ → Gauge → Looper → Looper
-animation_ran s q now g x a = if x.animating then gauge_moved s q now g x a else a
-
--- the gauges of the looper with their values, by rising number
+-- the traversal's callback removes the barrier and paints the looper's gauges with their values, by rising number, where one is under way
 abbrev pub paints : Script → ℕ → List Gauge → List Act
 paints s q gauges = filter_map (λ (g, x). if gauge_looper s g == q then Some (Paint g x.value) else None) (enumerate_from 0 gauges)
 
--- the traversal's callback removes the barrier and paints, where one is under way
 abbrev pub traversal_ran : Script → ℕ → ℕ → Looper → Looper
 traversal_ran s q now a =
     option_map_or (λ k. and_sends q now (Unbars k) (record a { barrier = None; painted = a.painted ++ paints s q a.gauges })) a.barrier a
@@ -129,13 +125,13 @@ traversal_ran s q now a =
 abbrev pub callback_ran : Script → ℕ → ℕ → Looper → ℕ → Looper
 callback_ran s q now a id =
     if id == traversal_id then traversal_ran s q now a
-    else if nat_le 1000000 id then option_map_or (λ x. animation_ran s q now (id - 1000000) x a) (slice_get a.gauges (id - 1000000)) a else a
+    else if nat_le 1000000 id then option_map_or (λ x. if x.animating then gauge_moved s q now (id - 1000000) x a else a) (slice_get a.gauges (id - 1000000)) a
+    else a
 
--- the rule fires at the message, where it has fired this often
+-- every other message: each rule for it that is not used up fires, in script order, and sends its message, with the delay counted from the dispatch
 abbrev pub fires : PostData → Rule → ℕ → Bool
 fires m r count = m.handler == r.handler && m.what == r.what && nat_lt count r.times
 
--- a rule sends its message, with the delay counted from the dispatch
 abbrev pub reaction : Script → ℕ → Rule → Sent
 reaction s now r = record {
   queue = looper_of s r.to_handler;
@@ -144,7 +140,6 @@ reaction s now r = record {
   timing = At now;
 }
 
--- every other message: each rule for it that is not used up fires, in script order
 abbrev pub reacted : Script → ℕ → PostData → Looper → Looper
 reacted s now m a = record a {
   fired = map (λ (r, n). if fires m r n then n + 1 else n) (zip s.rules a.fired);
@@ -154,10 +149,6 @@ reacted s now m a = record a {
 -- the message starts a frame of looper q
 abbrev pub starts_frame : ℕ → PostData → Bool
 starts_frame q m = not (is_some m.callback) && m.handler == frame_handler q && m.what == 0
-
--- where the message taken starts a frame, no pulse's frame is awaited any more
-abbrev pub and_starts : ℕ → PostData → Looper → Looper
-and_starts q m a = record a { awaits = a.awaits && not (starts_frame q m) }
 
 -- what the dispatch of a message causes, where the frame that it runs, if any, runs callbacks of these identities
 abbrev pub delivered : Script → ℕ → ℕ → List ℕ → PostData → Looper → Looper
@@ -169,3 +160,69 @@ delivered s q now ids m a =
 -- the looper takes a message
 abbrev pub and_takes : ℕ → ℕ → ℕ → Looper → Looper
 and_takes q n now a = record a { sent = a.sent ++ record { queue = q; ask = Makes (Next now); reply = Some (Dispatched n); timing = At now } ∷ [] }
+
+-- a dispatch, by its message, at this time: it runs the frame that begins at this place, or none, and what was painted before is told by then
+abbrev pub dispatched : Script → ℕ → List FrameEntry → Option ℕ → ℕ → ℕ → Looper → Option PostData → Looper
+dispatched s q fs frame n now a None = a
+dispatched s q fs frame n now a (Some m) = delivered s q now (frame_ids fs frame) m (and_takes q n now (record a {
+  painted = [];
+  awaits = a.awaits && not (starts_frame q m);
+  place = place_after a.place frame;
+  frames = frames_after a.frames frame now;
+}))
+
+-- what looper q has come to after an act, by its queue's history and its frame record; a dispatch runs the frame that begins at this place, or none
+unfoldable pub after_act : Script → ℕ → List Entry → List FrameEntry → Option ℕ → Looper → Act → Looper
+after_act s q es fs frame a (Dispatch n now route) = record (dispatched s q fs frame n now a (post_at es n)) { painted = [] }
+after_act s q es fs frame a (Vsync stamp) = record a {
+  sent = a.sent ++ record { queue = q; ask = Makes (Post (frame_message q 0 0 (stamp / 1000000))); reply = None; timing = NotBefore (millis_up stamp) } ∷ [];
+  stamp = stamp;
+  awaits = true;
+}
+after_act s q es fs frame a (Paint g v) = record a { painted = a.painted ++ Paint g v ∷ [] }
+after_act s q es fs frame a (Idle i k) = a
+after_act s q es fs frame a (Event f e m) = a
+
+-- a dispatch is of an accepted post, runs a frame only where its message starts one that a pulse awaits, and behind the frames before, that frame has the
+-- stamp of the latest pulse, and what was painted just before is what it paints
+pub record MayDispatch (s : Script) (q : ℕ) (es : List Entry) (fs : List FrameEntry) (frame : Option ℕ) (a : Looper) (n now : ℕ) : Type 0 where
+  pub accepted : is_some (post_at es n) ≡ true
+  pub starts : (not (is_some frame) || option_map_or (starts_frame q) (post_at es n) false) ≡ true
+  pub awaited : (not (is_some frame) || a.awaits) ≡ true
+  pub place : is_frame_from fs a.place frame ≡ true
+  pub stamped : has_stamp fs frame a.stamp ≡ true
+  pub painted : (dispatched s q fs frame n now a (post_at es n)).painted ≡ a.painted
+
+-- a pulse comes at a positive multiple of the period, or at the greatest u64, after the pulse before it, and only once that one's frame message is taken
+pub record MayPulse (s : Script) (a : Looper) (stamp : ℕ) : Type 0 where
+  pub painted : a.painted ≡ []
+  pub awaited : a.awaits ≡ false
+  pub pulse : is_pulse s.period stamp ≡ true
+  pub later : comes_after a.stamp stamp ≡ true
+
+-- the act may come next: paints stand nowhere but just before the dispatch that makes them
+abbrev pub MayCome : Script → ℕ → List Entry → List FrameEntry → Option ℕ → Looper → Act → Type 0
+MayCome s q es fs frame a (Dispatch n now route) = MayDispatch s q es fs frame a n now
+MayCome s q es fs frame a (Paint g v) = frame ≡ None
+MayCome s q es fs frame a (Vsync stamp) = (frame ≡ None) × MayPulse s a stamp
+MayCome s q es fs frame a _ = (frame ≡ None) × (a.painted ≡ [])
+
+-- the acts lead a looper from one state to another
+abbrev pub Lead : Script → ℕ → List Entry → List FrameEntry → Looper → List Act → Looper → Type 0
+Lead s q es fs a [] b = a ≡ b
+Lead s q es fs a (x ∷ xs) b = (frame : Option ℕ) × (MayCome s q es fs frame a x × Lead s q es fs (after_act s q es fs frame a x) xs b)
+
+-- the last call of a looper that is not main: the look for a message that disposes of its queue
+abbrev pub closing : ℕ → ℕ → List Sent
+closing q now = if q == 0 then [] else record { queue = q; ask = Makes (Next now); reply = Some Disposed; timing = NotBefore 0 } ∷ []
+
+-- the entry makes the call, with the reply where that is told
+pub record IsSent (tokens : List ℕ) (x : Sent) (e : Entry) : Type 0 where
+  pub call : plain e.call ≡ call_of tokens x.ask
+  pub reply : MatchOption x.reply (Unit {0}) (λ r. e.reply ≡ r)
+
+-- what each asks of a choreographer, and when: a thread by its lines, and its looper by the frames of its dispatches, at once, and by what its acts post
+abbrev pub asked_then : Script → ℕ → Looper → List (List TimedAsk)
+asked_then s q final =
+    map (λ thread. lines_ask_then q (lines_of thread s.blocks)) (range_with_len 0 s.threads)
+    ++ asked_in_rounds (map (λ x. Runs (nanos_of x.now)) final.frames) ∷ asked_in_rounds final.posted ∷ []

@@ -18,9 +18,7 @@ pub record Mode : Type 0 where
 abbrev pub in_lockstep : Mode
 in_lockstep = record { lockstep = true; shows = λ reading. true; start = 0 }
 
-abbrev pub in_free_mode : (ℕ → Bool) → ℕ → Mode
-in_free_mode shows start = record { lockstep = false; shows = shows; start = start }
-
+-- this is so in lockstep; and in free mode
 abbrev pub IfLockstep : Mode → Type 0 → Type 0
 IfLockstep m P = MatchBool m.lockstep P (Unit {0})
 
@@ -37,26 +35,18 @@ pub record IsMoment (m : Mode) (now : ℕ) : Type 0 where
 abbrev pub IsUptime : Mode → ℕ → ℕ → Type 0
 IsUptime m time uptime = MatchBool m.lockstep (uptime ≡ time) ((time ≤ uptime) × IsMoment m uptime)
 
--- the reading at the start is one that the clock shows, and in lockstep it is 0
-abbrev pub IsStart : Mode → Type 0
-IsStart m = MatchBool m.lockstep (m.start ≡ 0) (m.shows m.start ≡ true)
-
--- the call has a moment of its own
+-- the moment of the call, where it has one of its own, is a moment of the clock or the time of the queue
 abbrev pub has_moment : Call → Bool
 has_moment (Post p) = false
 has_moment (Unbarrier token) = false
 has_moment (Remove f) = false
 has_moment _ = true
 
--- the moment of the call, where it has one, is a moment of the clock or the time of the queue
 abbrev pub IsOfClock : Mode → ℕ → Call → Type 0
 IsOfClock m time call = MatchBool (has_moment call) (IsMoment m (moment_of call) ⊎ (moment_of call ≡ time)) (Unit {0})
 
+-- each entry that passes the test has such a moment
 abbrev pub AreOfClockAfter : Mode → (Entry → Bool) → List Entry → List Entry → Type 0
 AreOfClockAfter m test past [] = Unit {0}
 AreOfClockAfter m test past (e ∷ es) =
     MatchBool (test e) (IsOfClock m (clock (empty_base 0) past) e.call) (Unit {0}) × AreOfClockAfter m test (past ++ e ∷ []) es
-
--- in free mode each entry that passes the test has such a moment
-abbrev pub AreOfClock : Mode → (Entry → Bool) → List Entry → Type 0
-AreOfClock m test es = IfFree m (AreOfClockAfter m test [] es)

@@ -1,5 +1,6 @@
 -- When a report is a run of a script.
-use Rattle.std.specs.Prelude.{◌≡◌, ◌<◌, ℕ, ◌==◌, Bool, true, false, ◌||◌, not, nat_lt, nat_le, List, [], ◌∷◌, ◌++◌, map, length, count_by, slice_get}
+use Rattle.std.specs.Prelude.{◌≡◌, ◌<◌, ℕ, ◌==◌, Bool, true, false, ◌||◌, not, nat_lt, nat_le, List, [], ◌∷◌, ◌++◌, map, length, count_by, slice_get, filter}
+use Rattle.std.specs.Prelude.{MatchBool}
 use Rattle.std.specs.List.{AllByRecursion, filter_map, list_all, range_with_len}
 use Rattle.std.specs.Option.{option_map_or}
 use Rattle.loop_model.specs.declared.entry.Entry.{Entry}
@@ -8,26 +9,20 @@ use Rattle.loop_model.specs.Answers.{Setting}
 use Rattle.loop_model.specs.Legal.{IsLegal, AreNumbered}
 use Rattle.loop_model.specs.Chain.{IsChainFrom}
 use Rattle.loop_model.specs.Dispatches.{act_dispatch, call_dispatch}
+use Rattle.loop_model.specs.declared.journal.Journal.{Journal}
+use Rattle.loop_model.specs.declared.record.QueueRecord.{QueueRecord}
 use Rattle.frame_phases.specs.declared.entry.FrameRecord.{FrameRecord}
 use Rattle.frame_phases.specs.Frames.{lawful}
 use Rattle.frame_phases.specs.Pulses.{are_stamped}
 use Rattle.dash_script.specs.declared.script.Script.{Script}
 use Rattle.dash_script.specs.Causes.{phase_count}
-use Rattle.loop_model.specs.declared.journal.Journal.{Journal}
-use Rattle.loop_model.specs.declared.record.QueueRecord.{QueueRecord}
 use Rattle.run_model.specs.declared.report.Report.{Report}
-use Rattle.run_model.specs.Histories.{history_of}
-use Rattle.run_model.specs.Asks.{AreFor, entries_by}
-use Rattle.run_model.specs.Senders.{looper_sender, controller, sender_count}
-use Rattle.run_model.specs.Moments.{Mode, IfLockstep, IsStart, AreOfClock}
-use Rattle.run_model.specs.Planned.{lines_of, labels_on, lines_on, times_on, AreAsPlanned}
-use Rattle.run_model.specs.Control.{is_controlled, ends_halted, is_called_in_time, are_before_quit, befores, InBlock, are_on_time, each_behind}
-use Rattle.run_model.specs.Loopers.{Looper, Sent, first_looper}
-use Rattle.run_model.specs.Acts.{Lead, sent_on, closing, IsSent}
-use Rattle.run_model.specs.Moves.{moves, AreMovedTogether}
-use Rattle.run_model.specs.FrameRuns.{are_run_then, are_whole}
-use Rattle.run_model.specs.FrameAsks.{asks_in}
-use Rattle.run_model.specs.FrameTurns.{asked_then, AreAskedInTurn}
+use Rattle.run_model.specs.Planned.{history_of, AreFor, entries_by, looper_sender, controller, sender_count, lines_of, labels_on, lines_on, times_on, IsPlanned}
+use Rattle.run_model.specs.Moments.{Mode, IfLockstep, in_lockstep, IfFree, AreOfClockAfter}
+use Rattle.run_model.specs.Control.{is_controlled, ends_halted, is_called_in_time, are_before_quit, befores, InBlock, are_on_time, each_behind, moves}
+use Rattle.run_model.specs.Control.{AreMovedTogether, AreBlocksFirst, AreBlocksReached}
+use Rattle.run_model.specs.Loopers.{Looper, Sent, first_looper, Lead, closing, IsSent, asked_then}
+use Rattle.run_model.specs.FrameRecords.{are_run_then, are_whole, asks_in, AreAskedInTurn}
 
 abbrev pub setting_of : QueueRecord → Setting
 setting_of r = record { main = r.main; lockstep = r.lockstep; senders = r.senders }
@@ -49,48 +44,34 @@ pub record IsRecordOf (m : Mode) (test : Entry → Bool) (s : Script) (r : Queue
   pub chain : IsChainFrom (empty_base r.senders) r.segments
   pub legal : IsLegal (setting_of r) (empty_base r.senders) (history_of r)
   pub numbered : AreNumbered (setting_of r) (empty_base r.senders) (history_of r)
-  pub clocked : AreOfClock m test (history_of r)
+  pub clocked : IfFree m (AreOfClockAfter m test [] (history_of r))
 
--- part 1 of a run: the queues' records, and the reading at the start
+-- part 1 of a run: the queues' records, and the reading at the start, which is one that the clock shows, and in lockstep 0
 pub record AreRecordsOf (m : Mode) (test : Entry → Bool) (s : Script) (r : Report) : Type 0 where
   pub mode : r.start ≡ m.start
-  pub start : IsStart m
+  pub start : MatchBool m.lockstep (m.start ≡ 0) (m.shows m.start ≡ true)
   pub histories : AllByRecursion (IsRecordOf m test s) r.queues
 
--- each thread's entries on the queue are as its lines plan them
+-- part 2 of a run: each thread's entries on each queue make the calls of its lines there, one for one and in order
 abbrev pub IsAsPlanned : Mode → Script → QueueRecord → Type 0
-IsAsPlanned m s r = (thread : ℕ) → thread < s.threads → AreAsPlanned m s thread r.looper (history_of r)
+IsAsPlanned m s r = (thread : ℕ) → thread < s.threads →
+    AreFor (IsPlanned m s (labels_on r.looper (lines_of thread s.blocks)) r.looper) []
+    (lines_on s (labels_on r.looper (lines_of thread s.blocks)) r.looper (lines_of thread s.blocks)) (entries_by thread (history_of r))
 
--- part 2 of a run: the threads' calls
-abbrev pub ArePlannedOf : Mode → Script → Report → Type 0
-ArePlannedOf m s r = AllByRecursion (IsAsPlanned m s) r.queues
-
--- the controller's entries on the queue are its own, and the queue is disposed of once unless it is main
+-- part 3 of a run: the controller's entries on each queue are its own, and the queue is disposed of once unless it is main
 abbrev pub IsControlled : Script → QueueRecord → Type 0
 IsControlled s r = is_controlled r.main r.lockstep (controller s) s.end (history_of r) ≡ true
 
--- part 3 of a run: the controller's calls
-abbrev pub AreControlsOf : Script → Report → Type 0
-AreControlsOf s r = AllByRecursion (IsControlled s) r.queues
-
--- all entries pass
-abbrev pub all_entries : Entry → Bool
-all_entries e = true
-
--- a choreographer's record has the script's period and phases, and is lawful, and each of its frames has the stamp of a pulse, or 0
+-- part 4 of a run: each choreographer's record has the script's period and phases, and is lawful, and each of its frames has the stamp of a pulse, or 0
 pub record IsFrameRun (s : Script) (f : FrameRecord) : Type 0 where
   pub interval : f.interval ≡ s.period
   pub phases : f.phases ≡ phase_count s.edition
   pub lawful : lawful f.interval f.phases f.entries ≡ true
   pub stamps : are_stamped f.interval f.entries ≡ true
 
--- part 4 of a run: the choreographers' records
-abbrev pub AreFramesOf : Script → Report → Type 0
-AreFramesOf s r = AllByRecursion (IsFrameRun s) r.frames
-
 -- what a looper's acts cause on a queue, with the last look where it is not main
 abbrev pub caused_on : ℕ → Looper → ℕ → ℕ → List Sent
-caused_on queue final looper disposed_at = sent_on queue (final.sent ++ closing looper disposed_at)
+caused_on queue final looper disposed_at = filter (λ x. x.queue == queue) (final.sent ++ closing looper disposed_at)
 
 -- a looper's calls on each queue are those that its acts cause, the posts, removals and frames of its frame record are parted among those who ask for
 -- them, in turn, the frames are whole, and its Dispatch acts are, one for one and in order, its entries answered Dispatched. All that was painted is told. In
@@ -109,66 +90,54 @@ pub record IsLooperRun (m : Mode) (s : Script) (queues : List QueueRecord) (q : 
       are_on_time (map (λ x. x.timing) (caused_on r.looper final q.looper disposed_at)) (befores (looper_sender s q.looper) (history_of r)) ≡ true) queues)
   pub moments : IfLockstep m (are_run_then f.entries final.frames ≡ true)
 
--- each looper's queue, journal and frame record, and no others
+-- part 5 of a run: the loopers' calls, journals and frame records, each with its looper's queue, and no others
 abbrev pub EachLooper : (QueueRecord → Journal → FrameRecord → Type 0) → List QueueRecord → List Journal → List FrameRecord → Type 0
 EachLooper P [] [] [] = Unit {0}
 EachLooper P (q ∷ qs) (j ∷ js) (f ∷ fs) = P q j f × EachLooper P qs js fs
 EachLooper P _ _ _ = ⊥
 
--- part 5 of a run: the loopers' calls, journals and frame records, and that in lockstep what a dispatch caused came at its time, or behind its queue's disposal
-abbrev pub AreLoopersOf : Mode → Script → Report → Type 0
-AreLoopersOf m s r = EachLooper (IsLooperRun m s r.queues) r.queues r.journals r.frames
-
--- each call of the thread is on time
-abbrev pub IsThreadOnTime : Script → QueueRecord → ℕ → Type 0
-IsThreadOnTime s r thread =
-    are_on_time (map (λ l. InBlock l.time) (lines_on s (labels_on r.looper (lines_of thread s.blocks)) r.looper (lines_of thread s.blocks)))
-    (befores thread (history_of r)) ≡ true
-
--- a thread has made its calls on the queue for all blocks before this time
+-- the threads' calls on the queue come in the order of their blocks: each where all threads have made their calls there for earlier blocks
 abbrev pub has_called_before : Script → ℕ → ℕ → List Entry → ℕ → Bool
 has_called_before s q time past thread = nat_le (count_by (λ t. nat_lt t time) (times_on s q thread)) (length (entries_by thread past))
 
--- no thread's entry, or one of a planned call before which all threads have made their calls for earlier blocks
-abbrev pub comes_in_order : Script → ℕ → List Entry → Entry → Bool
-comes_in_order s q past e =
+unfoldable pub are_in_order : Script → ℕ → List Entry → Bool
+are_in_order s q es = each_behind (λ past e.
     not (nat_lt e.sender s.threads)
     || option_map_or (λ time. list_all (has_called_before s q time past) (range_with_len 0 s.threads))
-    (slice_get (times_on s q e.sender) (length (entries_by e.sender past))) false
-
--- the threads' calls on the queue come in the order of their blocks
-unfoldable pub are_in_order : Script → ℕ → List Entry → Bool
-are_in_order s q es = each_behind (comes_in_order s q) [] es
-
--- each call of a thread on the queue comes before the controller's quit
-abbrev pub IsBeforeQuit : Script → QueueRecord → Type 0
-IsBeforeQuit s r = are_before_quit s.threads (controller s) (history_of r) ≡ true
+    (slice_get (times_on s q e.sender) (length (entries_by e.sender past))) false) [] es
 
 -- the controller's calls are in time, and the threads' calls are on time and come in the order of their blocks
 pub record IsTimely (s : Script) (r : QueueRecord) : Type 0 where
   pub controls : is_called_in_time (controller s) (history_of r) ≡ true
-  pub threads : (thread : ℕ) → thread < s.threads → IsThreadOnTime s r thread
+  pub threads : (thread : ℕ) → thread < s.threads →
+      are_on_time (map (λ l. InBlock l.time) (lines_on s (labels_on r.looper (lines_of thread s.blocks)) r.looper (lines_of thread s.blocks)))
+      (befores thread (history_of r)) ≡ true
   pub in_order : are_in_order s r.looper (history_of r) ≡ true
 
--- main's history ends with its Halt
+-- part 6 of a run: main ends with its Halt, the threads' calls come before the controller's quits, and in lockstep each history is timely and all queues' times
+-- are moved together, to times at which something may come
 abbrev pub main_ends_halted : List QueueRecord → Bool
 main_ends_halted [] = false
 main_ends_halted (q ∷ qs) = ends_halted (history_of q)
 
--- part 6 of a run: main ends with its Halt, the threads' calls come before the controller's quits, and in lockstep each history is timely and all queues'
--- times are moved together, to times at which something may come
 pub record AreTimelyOf (m : Mode) (s : Script) (r : Report) : Type 0 where
   pub halted : main_ends_halted r.queues ≡ true
-  pub before_quit : AllByRecursion (IsBeforeQuit s) r.queues
+  pub before_quit : AllByRecursion (λ (q : QueueRecord). are_before_quit s.threads (controller s) (history_of q) ≡ true) r.queues
   pub histories : IfLockstep m (AllByRecursion (IsTimely s) r.queues)
   pub moves : IfLockstep m (AreMovedTogether s (map (λ q. moves (controller s) (history_of q)) r.queues))
 
--- the report is a run of the script; each part can be claimed by itself
+-- the report is a run of the script; each part can be claimed by itself, and the first one of the entries that pass a test: here all pass
 pub record IsRun (m : Mode) (s : Script) (r : Report) : Type 0 where
   pub report : IsReportOf s r
-  pub records : AreRecordsOf m all_entries s r
-  pub planned : ArePlannedOf m s r
-  pub controls : AreControlsOf s r
-  pub frames : AreFramesOf s r
-  pub loopers : AreLoopersOf m s r
+  pub records : AreRecordsOf m (λ e. true) s r
+  pub planned : AllByRecursion (IsAsPlanned m s) r.queues
+  pub controls : AllByRecursion (IsControlled s) r.queues
+  pub frames : AllByRecursion (IsFrameRun s) r.frames
+  pub loopers : EachLooper (IsLooperRun m s r.queues) r.queues r.journals r.frames
   pub timely : AreTimelyOf m s r
+
+-- the report is a run of the script in lockstep, and on each queue the threads' calls come first at the time of their block, and main comes to each block
+pub record IsStaged (s : Script) (r : Report) : Type 0 where
+  pub run : IsRun in_lockstep s r
+  pub blocks : AreBlocksFirst s r.queues
+  pub reached : AreBlocksReached s r.queues

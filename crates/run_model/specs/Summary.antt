@@ -9,8 +9,8 @@ use Rattle.loop_model.specs.declared.record.QueueRecord.{QueueRecord}
 use Rattle.loop_model.specs.Fates.{fates, is_dispatched}
 use Rattle.frame_phases.specs.declared.entry.FrameRecord.{FrameRecord}
 use Rattle.run_model.specs.declared.report.Report.{Report}
-use Rattle.run_model.specs.FrameRuns.{is_begin}
-use Rattle.run_model.specs.Histories.{history_of}
+use Rattle.run_model.specs.FrameRecords.{is_begin}
+use Rattle.run_model.specs.Planned.{history_of}
 use Rattle.run_model.specs.Text.{Words, line_text}
 
 abbrev pub is_paint : Act → Bool

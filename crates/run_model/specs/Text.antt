@@ -3,7 +3,6 @@ use Rattle.std.specs.Prelude.{ℕ, Bool, List, [], ◌∷◌, ◌++◌, Option, 
 use Rattle.std.specs.List.{flat_map, filter_map, zip}
 use Rattle.std.specs.Option.{option_map_or}
 use Rattle.std.specs.Fmt.{decimal}
-pub use Rattle.line_words.specs.Words.{Words, line as line_text}
 use Rattle.loop_model.specs.declared.post.Post.{Post as PostData}
 use Rattle.loop_model.specs.declared.call.Call.{Call}
 use Rattle.loop_model.specs.declared.call.Call.TheVariants.{Post, Unbarrier, Quit, Next}
@@ -13,34 +12,26 @@ use Rattle.loop_model.specs.declared.entry.Entry.{Entry}
 use Rattle.loop_model.specs.declared.fate.Fate.{Fate}
 use Rattle.loop_model.specs.Posts.{accepted_posts}
 use Rattle.loop_model.specs.Fates.{fates, is_queued, is_dispatched, is_removed, is_dropped, is_stranded}
-use Rattle.frame_phases.specs.declared.entry.Callback.{Callback}
-use Rattle.frame_phases.specs.declared.entry.FrameEntry.{FrameEntry}
-use Rattle.frame_phases.specs.declared.entry.FrameEntry.TheVariants.{Posted, Begin, Ran}
-use Rattle.frame_phases.specs.declared.entry.FrameRecord.{FrameRecord}
 use Rattle.loop_model.specs.declared.journal.Act.{Act}
 use Rattle.loop_model.specs.declared.journal.Act.TheVariants.{Idle, Event, Paint}
 use Rattle.loop_model.specs.declared.journal.Journal.{Journal}
 use Rattle.loop_model.specs.declared.record.QueueRecord.{QueueRecord}
+pub use Rattle.line_words.specs.Words.{Words, line as line_text}
+use Rattle.frame_phases.specs.declared.entry.Callback.{Callback}
+use Rattle.frame_phases.specs.declared.entry.FrameEntry.{FrameEntry}
+use Rattle.frame_phases.specs.declared.entry.FrameEntry.TheVariants.{Posted, Begin, Ran}
+use Rattle.frame_phases.specs.declared.entry.FrameRecord.{FrameRecord}
 use Rattle.run_model.specs.declared.report.Report.{Report}
-use Rattle.run_model.specs.Histories.{history_of}
+use Rattle.run_model.specs.Planned.{history_of}
 
 -- a message's handler, and its number or its callback
 abbrev pub subject : PostData → Words
 subject p = decimal p.handler ∷ option_map_or (λ c. codes "callback" ∷ decimal c ∷ []) p.callback (decimal p.what ∷ [])
 
--- a dispatch of a message
-abbrev pub dispatch_words : ℕ → ℕ → PostData → Words
-dispatch_words now n p = decimal now ∷ codes "dispatch" ∷ decimal n ∷ subject p
-
--- a message that was refused
-abbrev pub refused_words : PostData → ℕ → Words
-refused_words p place = (codes "refused" ∷ subject p) ++ codes "quit" ∷ decimal place ∷ []
-
--- the lines of an entry, none or one, by the accepted posts of the history
+-- the lines of a history: each entry has none or one, by the accepted posts
 abbrev pub call_lines : List PostData → Call → Reply → List Words
-call_lines posts (Next now) (Dispatched n) =
-    option_map_or (λ p. dispatch_words now n p ∷ []) (slice_get posts n) []
-call_lines posts (Post p) (Refused place) = refused_words p place ∷ []
+call_lines posts (Next now) (Dispatched n) = option_map_or (λ p. (decimal now ∷ codes "dispatch" ∷ decimal n ∷ subject p) ∷ []) (slice_get posts n) []
+call_lines posts (Post p) (Refused place) = ((codes "refused" ∷ subject p) ++ codes "quit" ∷ decimal place ∷ []) ∷ []
 call_lines posts (Unbarrier token) NotPosted = (codes "not-posted" ∷ decimal token ∷ []) ∷ []
 call_lines posts (Quit safe now) NotAllowed = (codes "not-allowed" ∷ []) ∷ []
 call_lines posts (Quit safe now) (AlreadyQuit place) = (codes "already-quit" ∷ decimal place ∷ []) ∷ []
@@ -49,7 +40,7 @@ call_lines posts _ _ = []
 abbrev pub history_lines : List Entry → List Words
 history_lines es = flat_map (λ e. call_lines (accepted_posts es) e.call e.reply) es
 
--- how many accepted posts have the fate
+-- how many accepted posts have which fate
 abbrev pub counted : (Fate → Bool) → List Fate → List ℕ
 counted test fs = decimal (count_by test fs)
 
@@ -64,38 +55,32 @@ act_lines (Event fd events mask) = (codes "event" ∷ decimal fd ∷ decimal eve
 act_lines (Paint gauge value) = (codes "paint" ∷ decimal gauge ∷ decimal value ∷ []) ∷ []
 act_lines _ = []
 
+-- the lines of a frame history: each entry has none or one, by the callbacks in the order of posting
 abbrev pub posted_callback : FrameEntry → Option Callback
 posted_callback (Posted c) = Some c
 posted_callback _ = None
 
--- a callback that runs
-abbrev pub run_words : Callback → Words
-run_words c = codes "run" ∷ decimal c.phase ∷ decimal c.id ∷ []
-
--- the lines of a frame entry, by the callbacks in the order of posting
 abbrev pub frame_entry_lines : List Callback → FrameEntry → List Words
 frame_entry_lines cs (Begin vsync start time) = (codes "frame" ∷ decimal time ∷ []) ∷ []
-frame_entry_lines cs (Ran n) = option_map_or (λ c. run_words c ∷ []) (slice_get cs n) []
+frame_entry_lines cs (Ran n) = option_map_or (λ c. (codes "run" ∷ decimal c.phase ∷ decimal c.id ∷ []) ∷ []) (slice_get cs n) []
 frame_entry_lines cs _ = []
 
 abbrev pub frame_lines : List FrameEntry → List Words
 frame_lines fs = flat_map (frame_entry_lines (filter_map posted_callback fs)) fs
 
--- a looper's lines
+-- the lines of a looper, and of all loopers in order
 abbrev pub looper_lines : QueueRecord → Journal → FrameRecord → List Words
 looper_lines q j f =
     (codes "looper" ∷ decimal q.looper ∷ []) ∷ history_lines (history_of q) ++ fates_line (fates (history_of q)) ∷ flat_map act_lines j.acts
     ++ frame_lines f.entries
 
--- all loopers' lines, in order
 abbrev pub loopers_lines : List QueueRecord → List Journal → List FrameRecord → List Words
 loopers_lines qs js fs = flat_map (λ (q, (j, f)). looper_lines q j f) (zip qs (zip js fs))
 
--- the lines of a report
+-- the lines of a report, and its text
 unfoldable pub lines : Report → List Words
 lines r =
     (codes "report" ∷ decimal r.script.edition ∷ []) ∷ loopers_lines r.queues r.journals r.frames ++ (codes "end" ∷ []) ∷ []
 
--- the text of a report
 unfoldable pub text : Report → List ℕ
 text r = flat_map line_text (lines r)

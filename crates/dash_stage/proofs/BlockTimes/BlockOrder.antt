@@ -15,10 +15,10 @@ use Rattle.dash_script.specs.declared.script.Block.{Block}
 use Rattle.dash_script.specs.declared.script.Line.{Line}
 use Rattle.dash_script.specs.declared.script.Script.{Script}
 use Rattle.dash_script.specs.Reading.{rise}
-use Rattle.run_model.specs.Asks.{entries_by}
-use Rattle.run_model.specs.Planned.{Timed, lines_in, lines_of, labels_on, lines_on, times_on}
+use Rattle.run_model.specs.Planned.{entries_by, Timed, lines_of, labels_on, lines_on, times_on}
+use Rattle.run_model.specs.Parts.{lines_in, comes_in_order}
 use Rattle.run_model.specs.Control.{each_behind}
-use Rattle.run_model.specs.Run.{has_called_before, comes_in_order, are_in_order}
+use Rattle.run_model.specs.Run.{has_called_before, are_in_order}
 use Rattle.run_model.proofs.ControlLaws.{each_behind-append}
 use Rattle.run_model.proofs.RunLaws.{entries_by-append, lines_on-append}
 

@@ -4,7 +4,8 @@ use Rattle.std.proofs.lemmas.List.{take_more, drop_more, take-append-drop, flat_
 use Rattle.std.proofs.lemmas.Grind.{flat_map-append}
 use Rattle.dash_script.specs.declared.script.Block.{Block}
 use Rattle.dash_script.specs.declared.script.Script.{Script}
-use Rattle.run_model.specs.Planned.{Timed, lines_in, lines_of}
+use Rattle.run_model.specs.Planned.{Timed, lines_of}
+use Rattle.run_model.specs.Parts.{lines_in}
 use Rattle.dash_threads.specs.declared.thread.PostingThread.{PostingThread}
 use Rattle.run_model.specs.Moments.{in_lockstep}
 use Rattle.dash_threads.specs.Threads.{IsUpTo}

@@ -11,12 +11,12 @@ use Rattle.loop_model.specs.Base.{empty_base}
 use Rattle.loop_model.specs.Answers.{Setting}
 use Rattle.loop_model.specs.Legal.{AreNumbered}
 use Rattle.loop_model.proofs.AfterLaws.{disposed_stays}
-use Rattle.run_model.specs.Asks.{entries_by}
-use Rattle.run_model.specs.Control.{each_behind}
+use Rattle.run_model.specs.Planned.{entries_by}
+use Rattle.run_model.specs.Control.{each_behind, come_first}
+use Rattle.run_model.specs.Parts.{is_threads, comes_first}
 use Rattle.run_model.proofs.ControlLaws.{each_behind-snoc, each_behind-append}
 use Rattle.run_model.proofs.RunLaws.{entries_by-others}
 use Rattle.run_model.proofs.FreshLaws.{fresh_called}
-use Rattle.dash_stage.specs.Blocks.{is_threads, comes_first, come_first}
 use Rattle.dash_stage.specs.AtBlocks.{IsFresh}
 use Rattle.dash_stage.proofs.Stages.Timely.{of_others, own_of_none, numbered_next, no_threads}
 

@@ -10,12 +10,10 @@ use Rattle.loop_model.specs.Entries.{moment_of}
 use Rattle.loop_model.specs.Answers.{clock, has_disposed, has_halted}
 use Rattle.loop_model.proofs.Growing.{entry_by_entry}
 use Rattle.dash_script.specs.declared.script.Script.{Script}
-use Rattle.run_model.specs.Asks.{entries_by}
-use Rattle.run_model.specs.Senders.{controller, sender_count}
-use Rattle.run_model.specs.Control.{Before, before, InBlock, is_advance, is_on_time}
+use Rattle.run_model.specs.Planned.{entries_by, controller, sender_count}
+use Rattle.run_model.specs.Control.{Before, before, InBlock, is_advance, is_on_time, is_reached}
 use Rattle.run_model.proofs.RunLaws.{entries_by-own, entries_by-unchanged}
 use Rattle.dash_loopers.specs.Loopers.{IsSoundOn, setting_for}
-use Rattle.run_model.specs.Fresh.{is_reached}
 use Rattle.run_model.proofs.FreshLaws.{start_reached, reached_on, reached_by_last}
 use Rattle.dash_stage.specs.Controllers.{are_advances, time_in}
 use Rattle.dash_stage.proofs.Controller.Controls.{own_advances, time_in-snoc, time_by_controller, main_is_not_over}

@@ -13,11 +13,9 @@ use Rattle.loop_model.specs.declared.call.Call.TheVariants.{Quit}
 use Rattle.queue_state.specs.Queue.{entry_of, moment_at}
 use Rattle.dash_script.specs.declared.script.Script.{Script}
 use Rattle.looper_run.specs.Holding.{Sender}
-use Rattle.run_model.specs.Asks.{entries_by}
+use Rattle.run_model.specs.Planned.{entries_by, controller, lines_of}
 use Rattle.run_model.specs.Control.{are_before_quit}
 use Rattle.run_model.specs.Moments.{Mode}
-use Rattle.run_model.specs.Planned.{lines_of}
-use Rattle.run_model.specs.Senders.{controller}
 use Rattle.dash_hall.specs.declared.hall.Hall.{Hall}
 use Rattle.dash_hall.specs.Growth.{own}
 use Rattle.choreographer.specs.Known.{Known as Pass}

@@ -9,15 +9,15 @@ use Rattle.loop_model.specs.declared.journal.Act.{Act}
 use Rattle.dash_script.specs.declared.script.Script.{Script}
 use Rattle.dash_script.specs.Reading.{HasText}
 use Rattle.looper_run.specs.Holding.{Sender}
-use Rattle.run_model.specs.Moments.{Mode, AreOfClock, AreOfClockAfter}
-use Rattle.run_model.specs.Planned.{lines_of}
+use Rattle.run_model.specs.Moments.{Mode, AreOfClockAfter}
+use Rattle.run_model.specs.Parts.{AreOfClock}
+use Rattle.run_model.specs.Planned.{lines_of, entries_by}
 use Rattle.run_model.specs.Loopers.{Looper, first_looper}
 use Rattle.dash_hall.specs.declared.hall.Hall.{Hall}
 use Rattle.dash_hall.specs.Hearing.{AtEach, HaveHeard}
 use Rattle.dash_hall.specs.Kits.{AreUnseen, IsHall}
 use Rattle.dash_hall.specs.ByClock.{is_by}
 use Rattle.loop_model.specs.declared.entry.Entry.{Entry}
-use Rattle.run_model.specs.Asks.{entries_by}
 use Rattle.dash_hall.proofs.Clocking.{clocked_same, if_free}
 use Rattle.dash_threads.specs.declared.thread.PostingThread.{PostingThread}
 use Rattle.dash_threads.specs.Threads.{IsThread, IsUpTo, AreByClock, ThreadKeeps}

@@ -16,7 +16,8 @@ use Rattle.queue_state.specs.Queue.{entry_of, entered, moment_at}
 use Rattle.shared_queue.specs.Constants.{Constants}
 use Rattle.shared_queue.specs.Known.{Shared, IsOf, IsTurn}
 use Rattle.looper_run.specs.Holding.{Sender, State}
-use Rattle.run_model.specs.Moments.{Mode, in_free_mode, IsMoment}
+use Rattle.run_model.specs.Moments.{Mode, IsMoment}
+use Rattle.run_model.specs.ByClock.{in_free_mode}
 use Rattle.run_model.specs.Control.{is_advance, is_halt, is_safe_quit, is_closing, are_controls}
 use Rattle.dash_hall.specs.declared.hall.Hall.{Hall}
 use Rattle.dash_stage.specs.declared.control.Controller.{Controller}

@@ -10,9 +10,9 @@ use Rattle.loop_model.specs.Answers.{Setting, clock}
 use Rattle.loop_model.specs.Legal.{AreNumbered}
 use Rattle.loop_model.proofs.NumberLaws.{AreNumbered-known}
 use Rattle.looper_run.specs.Holding.{Sender}
-use Rattle.run_model.specs.Asks.{entries_by}
-use Rattle.run_model.specs.Moments.{Mode, IsOfClock, AreOfClock, AreOfClockAfter, has_moment}
-use Rattle.run_model.specs.Run.{all_entries}
+use Rattle.run_model.specs.Planned.{entries_by}
+use Rattle.run_model.specs.Moments.{Mode, IsOfClock, AreOfClockAfter, has_moment}
+use Rattle.run_model.specs.Parts.{AreOfClock, all_entries}
 use Rattle.run_model.proofs.RunLaws.{entries_by-append}
 use Rattle.dash_hall.specs.ByClock.{is_by, IsByClock}
 use Rattle.dash_hall.proofs.Clocking.{if_free, clock_more, clock_quiet}

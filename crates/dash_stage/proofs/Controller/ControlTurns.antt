@@ -29,8 +29,7 @@ use Rattle.shared_queue.specs.Constants.{Constants, IsStateOf}
 use Rattle.loop_model.specs.declared.segment.Segment.{Segment}
 use Rattle.shared_queue.specs.Known.{Shared, IsOf, IsTurnWith}
 use Rattle.looper_run.specs.Holding.{Sender, State}
-use Rattle.run_model.specs.Senders.{controller, sender_count}
-use Rattle.run_model.specs.Asks.{entries_by}
+use Rattle.run_model.specs.Planned.{controller, sender_count, entries_by}
 use Rattle.run_model.specs.Control.{are_controls}
 use Rattle.dash_hall.specs.declared.hall.Hall.{Hall}
 use Rattle.dash_stage.specs.declared.control.Controller.{Controller}

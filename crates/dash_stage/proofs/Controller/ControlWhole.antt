@@ -23,9 +23,8 @@ use Rattle.loop_model.specs.declared.segment.Segment.{Segment}
 use Rattle.shared_queue.specs.Known.{IsTurn, IsTurnWith}
 use Rattle.loop_model.proofs.Prefixes.{prefix_self, prefix_trans}
 use Rattle.looper_run.specs.Holding.{Sender, State}
-use Rattle.run_model.specs.Asks.{entries_by}
+use Rattle.run_model.specs.Planned.{entries_by, sender_count}
 use Rattle.run_model.specs.Control.{ends_halted}
-use Rattle.run_model.specs.Senders.{sender_count}
 use Rattle.dash_hall.specs.declared.hall.Hall.{Hall}
 use Rattle.dash_stage.specs.Controllers.{CanTurn, TurnsAlone, calls_on, time_in}
 use Rattle.dash_stage.proofs.Controller.Controlling.{has_poster, after_call, after_turn}

@@ -8,7 +8,7 @@ use Rattle.std.proofs.Math.Bool.{and_assoc, or-false}
 use Rattle.std.proofs.Math.Nat.{max-eq_left}
 use Rattle.std.proofs.lemmas.Bool.{and_parts, and_from, cases_Bool, or_parts, or_from, or_left, or_right, or_cases, false_from_ne_true, leb-true, le-leb, eq-eqb, ne_eqb}
 use mathlib.Core.List.{IsPrefix}
-use Rattle.run_model.specs.Histories.{history_of}
+use Rattle.run_model.specs.Planned.{history_of, entries_by, controller, sender_count}
 use Rattle.loop_model.specs.declared.post.Post.{Post as PostData}
 use Rattle.loop_model.specs.declared.call.Call.{Call}
 use Rattle.loop_model.specs.declared.call.Call.TheVariants.{Post, Barrier, Unbarrier, Remove, Quit, Next, Advance, Halt}
@@ -33,11 +33,10 @@ use Rattle.loop_model.proofs.Sorting.{AllByRecursion-append}
 use Rattle.loop_model.proofs.WellFormedLaws.{All_recursive, All_indexed}
 use Rattle.dash_script.specs.declared.script.Script.{Script}
 use Rattle.looper_run.specs.Holding.{Sender}
-use Rattle.run_model.specs.Asks.{entries_by}
 use Rattle.run_model.specs.Moments.{Mode}
-use Rattle.run_model.specs.Senders.{controller, sender_count}
-use Rattle.run_model.specs.Run.{IsRecordOf, IsControlled, all_entries, setting_of}
-use Rattle.run_model.specs.Control.{is_advance, is_halt, is_quit, is_safe_quit, is_empty, is_closing, are_controls, is_quit_by_others, disposed_count, is_controlled}
+use Rattle.run_model.specs.Run.{IsRecordOf, IsControlled, setting_of}
+use Rattle.run_model.specs.Parts.{all_entries, is_quit_by_others, disposed_count}
+use Rattle.run_model.specs.Control.{is_advance, is_halt, is_quit, is_safe_quit, is_empty, is_closing, are_controls, is_controlled}
 use Rattle.run_model.proofs.RunLaws.{entries_by-append, entries_by-own, entries_by-unchanged}
 use Rattle.run_model.proofs.ControlLaws.{are_advances as are_advances_in, are_controls-last, are_controls-quit}
 use Rattle.dash_hall.specs.declared.hall.Hall.{Hall}

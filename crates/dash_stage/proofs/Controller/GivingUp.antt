@@ -9,8 +9,7 @@ use native.Mathlib.Decide.{ℕ_discrete}
 use Rattle.dash_script.specs.declared.script.Script.{Script}
 use Rattle.shared_queue.specs.Known.{IsSamePoster}
 use Rattle.looper_run.specs.Holding.{Sender}
-use Rattle.run_model.specs.Asks.{entries_by}
-use Rattle.run_model.specs.Senders.{controller}
+use Rattle.run_model.specs.Planned.{entries_by, controller}
 use Rattle.dash_hall.specs.declared.hall.Hall.{Hall}
 use Rattle.dash_hall.specs.Growth.{own, QuitsOf}
 use Rattle.dash_hall.specs.Kits.{badge_of}

@@ -8,7 +8,7 @@ use Rattle.loop_model.specs.declared.segment.Segment.{Segment}
 use Rattle.dash_script.specs.declared.script.Script.{Script}
 use Rattle.shared_queue.specs.Known.{IsTurnWith, with_parts}
 use Rattle.looper_run.specs.Holding.{Sender, State}
-use Rattle.run_model.specs.Senders.{controller}
+use Rattle.run_model.specs.Planned.{controller}
 use Rattle.dash_hall.specs.Kits.{badge_of}
 use Rattle.dash_hall.proofs.Badges.{posters_kept}
 use Rattle.dash_hall.specs.declared.hall.Hall.{Hall}

@@ -6,7 +6,7 @@ use Rattle.loop_model.specs.declared.entry.Entry.{Entry}
 use Rattle.dash_script.specs.declared.script.Script.{Script}
 use Rattle.dash_stage.specs.declared.control.Controller.{Controller}
 use Rattle.dash_stage.specs.Controllers.{are_advances, IsMoving, IsQuitting, IsClosing}
-use Rattle.run_model.specs.Asks.{entries_by}
+use Rattle.run_model.specs.Planned.{entries_by}
 use Rattle.dash_hall.specs.Kits.{IsUnusedKit}
 use Rattle.dash_stage.specs.Timeliness.{AreBy}
 use Rattle.dash_stage.proofs.Controller.ControlKept.{moves_may_quit}

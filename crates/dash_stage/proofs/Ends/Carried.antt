@@ -3,15 +3,15 @@ use Rattle.std.proofs.Common.{◌≡◌, ◌<◌, ◌≤◌, ◌+◌, ℕ, suc, 
 use Rattle.std.specs.List.{remove, AllByRecursion, range_with_len}
 use Rattle.std.proofs.lemmas.List.{get_or-map, length-append, length-map}
 use Rattle.std.proofs.lemmas.List.FromFn.{length-range_with_len, get_or-range_with_len}
-use Rattle.run_model.specs.Histories.{history_of}
+use Rattle.run_model.specs.Planned.{history_of, entries_by, lines_of, labels_on}
 use Rattle.loop_model.specs.declared.entry.Entry.{Entry}
 use Rattle.loop_model.specs.declared.record.QueueRecord.{QueueRecord}
 use Rattle.loop_model.proofs.WellFormedLaws.{All_recursive}
 use Rattle.dash_script.specs.declared.script.Script.{Script}
 use Rattle.run_model.specs.Moments.{Mode}
-use Rattle.run_model.specs.Asks.{entries_by}
-use Rattle.run_model.specs.Planned.{lines_of, labels_on, MakeCalls}
-use Rattle.run_model.specs.FrameAsks.{lines_ask, as_told}
+use Rattle.run_model.specs.Parts.{MakeCalls}
+use Rattle.run_model.specs.AskedSoFar.{lines_ask}
+use Rattle.run_model.specs.FrameRecords.{as_told}
 use Rattle.run_model.specs.Run.{IsAsPlanned}
 use Rattle.dash_hall.specs.declared.hall.Hall.{Hall}
 use Rattle.dash_hall.specs.declared.kit.Kit.{Kit}

@@ -11,7 +11,7 @@ use mathlib.Core.Logic.{dite}
 use mathlib.Core.List.{map-append, IsPrefix}
 use native.Mathlib.Decide.{ℕ_discrete, dec_lt}
 use Rattle.atomic_table.specs.Seated.{TableId}
-use Rattle.run_model.specs.Histories.{history_of}
+use Rattle.run_model.specs.Planned.{history_of, sender_count, entries_by}
 use Rattle.loop_model.specs.Chain.{IsChainFrom}
 use Rattle.loop_model.specs.declared.entry.Entry.{Entry}
 use Rattle.loop_model.specs.declared.record.QueueRecord.{QueueRecord}
@@ -24,10 +24,9 @@ use Rattle.shared_queue.specs.Constants.{Constants, made_in}
 use Rattle.shared_queue.specs.Ends.{AreInOrder, HasCalls}
 use Rattle.shared_queue.proofs.Prefixes.{made_in-append}
 use Rattle.looper_run.specs.Holding.{Sender}
-use Rattle.run_model.specs.Senders.{sender_count}
-use Rattle.run_model.specs.Asks.{entries_by}
-use Rattle.run_model.specs.Moments.{Mode, AreOfClock, AreOfClockAfter}
-use Rattle.run_model.specs.Run.{IsRecordOf, all_entries, setting_of}
+use Rattle.run_model.specs.Moments.{Mode, AreOfClockAfter}
+use Rattle.run_model.specs.Parts.{AreOfClock, all_entries}
+use Rattle.run_model.specs.Run.{IsRecordOf, setting_of}
 use Rattle.run_model.proofs.RunLaws.{entries_by-append}
 use Rattle.dash_hall.specs.declared.kit.Kit.{Kit}
 use Rattle.dash_hall.specs.Growth.{own}

@@ -3,7 +3,7 @@ use Rattle.std.proofs.Common.{◌≡◌, ◌<◌, ◌==◌, ℕ, suc, true, List
 use Rattle.std.specs.List.{remove, AllByRecursion}
 use Rattle.std.proofs.lemmas.List.{get_or-map}
 use mathlib.Core.List.{IsPrefix}
-use Rattle.run_model.specs.Histories.{history_of}
+use Rattle.run_model.specs.Planned.{history_of, entries_by, controller, sender_count, lines_of, labels_on, lines_on}
 use Rattle.loop_model.specs.declared.entry.Entry.{Entry}
 use Rattle.loop_model.specs.declared.record.QueueRecord.{QueueRecord}
 use Rattle.loop_model.specs.Base.{empty_base}
@@ -12,12 +12,11 @@ use Rattle.loop_model.specs.Legal.{IsLegal, AreNumbered, AreNumberedAfter}
 use Rattle.loop_model.proofs.WellFormedLaws.{All_recursive, All_indexed}
 use Rattle.dash_script.specs.declared.script.Script.{Script}
 use Rattle.looper_run.specs.Holding.{Sender}
-use Rattle.run_model.specs.Asks.{entries_by}
 use Rattle.run_model.specs.Moments.{in_lockstep, Mode}
-use Rattle.run_model.specs.Planned.{lines_of, labels_on, lines_on}
-use Rattle.run_model.specs.Senders.{controller, sender_count}
-use Rattle.run_model.specs.Control.{is_called_in_time, are_before_quit, ends_halted, befores, InBlock, are_on_time}
-use Rattle.run_model.specs.Run.{IsRecordOf, IsTimely, all_entries, setting_of, main_ends_halted, are_in_order, IsBeforeQuit}
+use Rattle.run_model.specs.Control.{is_called_in_time, are_before_quit, ends_halted, befores, InBlock, are_on_time, AreReached, come_first, AreBlocksFirst}
+use Rattle.run_model.specs.Control.{main_entries, AreBlocksReached}
+use Rattle.run_model.specs.Run.{IsRecordOf, IsTimely, setting_of, main_ends_halted, are_in_order}
+use Rattle.run_model.specs.Parts.{all_entries, IsBeforeQuit}
 use Rattle.dash_hall.specs.declared.hall.Hall.{Hall}
 use Rattle.dash_hall.specs.declared.kit.Kit.{Kit}
 use Rattle.dash_threads.specs.declared.thread.PostingThread.{PostingThread}
@@ -29,8 +28,6 @@ use Rattle.dash_stage.specs.Records.{AreQueueRecords, HaveAll}
 use Rattle.dash_hall.specs.Hearing.{seen_by, HaveSeenAll}
 use Rattle.dash_stage.specs.Sharing.{OfThreads, OfLoopers, OfKits}
 use Rattle.dash_stage.specs.Timeliness.{whole_on, AreSound, IsTimelyUpTo}
-use Rattle.run_model.specs.Fresh.{AreReached}
-use Rattle.dash_stage.specs.Blocks.{come_first, AreBlocksFirst, main_entries, AreBlocksReached}
 use Rattle.dash_hall.proofs.Badges.{alike_length, queue_count, poster_at}
 use Rattle.dash_stage.proofs.Sharing.Casting.{first_more}
 use Rattle.dash_stage.proofs.Ends.HallEnds.{some_of}

@@ -16,8 +16,7 @@ use Rattle.loop_model.specs.Pick.{first_eligible}
 use Rattle.loop_model.proofs.WellFormedLaws.{All_recursive, All_indexed}
 use Rattle.loop_model.proofs.Prefixes.{prefix_self, prefix_trans}
 use Rattle.dash_script.specs.declared.script.Script.{Script}
-use Rattle.run_model.specs.Control.{is_advance}
-use Rattle.run_model.specs.Moves.{Move, moves, moves_after, move_times, is_planned_time, was_due_at, MayMoveTo, main_moves, AreMovedTogether}
+use Rattle.run_model.specs.Control.{is_advance, Move, moves, moves_after, move_times, is_planned_time, was_due_at, MayMoveTo, main_moves, AreMovedTogether}
 
 -- ---- the moves of one queue
 

@@ -25,10 +25,8 @@ use Rattle.loop_model.proofs.LegalLaws.{IsLegal-last}
 use Rattle.loop_model.proofs.Sorting.{AllByRecursion-weaker}
 use Rattle.dash_script.specs.declared.script.Script.{Script}
 use Rattle.looper_run.specs.Holding.{Sender}
-use Rattle.run_model.specs.Asks.{entries_by}
-use Rattle.run_model.specs.Senders.{controller, sender_count}
-use Rattle.run_model.specs.Control.{is_advance}
-use Rattle.run_model.specs.Moves.{Move, moves, move_times, main_moves, is_planned_time, MayMoveTo, AreMovedTogether}
+use Rattle.run_model.specs.Planned.{entries_by, controller, sender_count}
+use Rattle.run_model.specs.Control.{is_advance, Move, moves, move_times, main_moves, is_planned_time, MayMoveTo, AreMovedTogether}
 use Rattle.dash_loopers.specs.declared.looper.StageLooper.{StageLooper}
 use Rattle.dash_loopers.specs.Loopers.{IsSoundOn, setting_for}
 use Rattle.dash_hall.specs.Hearing.{HaveHeard}

@@ -11,9 +11,8 @@ use Rattle.loop_model.specs.declared.record.QueueRecord.{QueueRecord}
 use Rattle.loop_model.proofs.WellFormedLaws.{All_recursive}
 use Rattle.dash_script.specs.declared.script.Script.{Script}
 use Rattle.looper_run.specs.Holding.{Sender}
-use Rattle.run_model.specs.Histories.{history_of}
-use Rattle.run_model.specs.Senders.{controller}
-use Rattle.run_model.specs.Moves.{Move, moves, move_times, MayMoveTo, AreMovedTogether}
+use Rattle.run_model.specs.Planned.{history_of, controller}
+use Rattle.run_model.specs.Control.{Move, moves, move_times, MayMoveTo, AreMovedTogether}
 use Rattle.dash_hall.specs.declared.hall.Hall.{Hall}
 use Rattle.dash_hall.specs.declared.kit.Kit.{Kit}
 use Rattle.dash_hall.specs.Kits.{IsHall, AreUnseen, AreKitsOf}

@@ -9,8 +9,8 @@ use Rattle.dash_script.specs.declared.script.Script.{Script}
 use Rattle.choreographer.specs.declared.view.Constants.{Constants as FrameConstants}
 use Rattle.choreographer.specs.Known.{Shared as Frames, Known as Pass}
 use Rattle.choreographer.specs.Calls.{AskedBy}
-use Rattle.run_model.specs.Acts.{millis_up}
-use Rattle.run_model.specs.Moves.{IsPulseTime}
+use Rattle.run_model.specs.FrameRecords.{millis_up}
+use Rattle.run_model.specs.Control.{IsPulseTime}
 use Rattle.dash_hall.specs.declared.hall.Hall.{Hall}
 use Rattle.dash_hall.proofs.Badges.{choreographer_at}
 use Rattle.dash_stage.specs.declared.control.Controller.{Controller}

@@ -23,8 +23,7 @@ use Rattle.loop_model.proofs.NumberLaws.{AreNumbered-front}
 use Rattle.loop_model.proofs.Prefixes.{prefix_trans}
 use Rattle.dash_script.specs.declared.script.Script.{Script}
 use Rattle.looper_run.specs.Holding.{Sender}
-use Rattle.run_model.specs.Asks.{entries_by}
-use Rattle.run_model.specs.Senders.{controller, sender_count}
+use Rattle.run_model.specs.Planned.{entries_by, controller, sender_count}
 use Rattle.run_model.specs.Control.{is_advance, is_none_before, is_in_time}
 use Rattle.run_model.proofs.RunLaws.{entries_by-append, entries_by-unchanged}
 use Rattle.dash_stage.specs.declared.control.Controller.{Controller}

@@ -18,10 +18,10 @@ use Rattle.dash_script.specs.declared.script.Script.{Script}
 use Rattle.choreographer.specs.Known.{Known as Pass}
 use Rattle.choreographer.specs.Ends.{AreHeard, own_of}
 use Rattle.run_model.specs.Planned.{lines_of}
-use Rattle.run_model.specs.Loopers.{Looper}
-use Rattle.run_model.specs.FrameAsks.{FrameAsk, asked_in, asks_in, asks_to_run, lines_ask, as_told}
-use Rattle.run_model.specs.FrameTurns.{asked_then, AreAskedInTurn}
-use Rattle.run_model.specs.AskedSoFar.{HaveAsked, second, asked_so_far}
+use Rattle.run_model.specs.Loopers.{Looper, asked_then}
+use Rattle.run_model.specs.FrameRecords.{FrameAsk, asked_in, asks_in, as_told, AreAskedInTurn}
+use Rattle.run_model.specs.Parts.{asks_to_run}
+use Rattle.run_model.specs.AskedSoFar.{lines_ask, HaveAsked, second, asked_so_far}
 use Rattle.run_model.proofs.AskedInTurn.{AreAskedBy, asked_of, then_asks, parted_in_turn, all_asked}
 use Rattle.dash_hall.specs.declared.kit.Kit.{Kit}
 use Rattle.dash_hall.specs.Hosts.{asks_of}

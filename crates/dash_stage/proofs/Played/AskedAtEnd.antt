@@ -5,8 +5,8 @@ use Rattle.frame_phases.specs.declared.entry.FrameEntry.{FrameEntry}
 use Rattle.choreographer.specs.Known.{Known as Pass}
 use Rattle.dash_script.specs.declared.script.Script.{Script}
 use Rattle.run_model.specs.Loopers.{Looper}
-use Rattle.run_model.specs.FrameAsks.{asks_in, asks_to_run}
-use Rattle.run_model.specs.FrameTurns.{in_round}
+use Rattle.run_model.specs.FrameRecords.{asks_in, in_round}
+use Rattle.run_model.specs.Parts.{asks_to_run}
 use Rattle.dash_hall.specs.Hearing.{HaveHeardAllAt}
 use Rattle.dash_hall.specs.Hosts.{asks_of}
 use Rattle.dash_hall.proofs.FramePosts.{told_whole}

@@ -1,15 +1,13 @@
 -- The dispatches that the journals tell are those that the records' histories have.
 use Rattle.std.proofs.Common.{◌≡◌, ◌<◌, ◌+◌, ℕ, suc, List, [], ◌∷◌, length, sym, ap, ◌∙◌, arith, slice_index_or}
 use Rattle.std.specs.List.{filter_map}
-use Rattle.run_model.specs.Histories.{history_of}
+use Rattle.run_model.specs.Planned.{history_of, entries_by, looper_sender}
 use Rattle.loop_model.specs.declared.entry.Entry.{Entry}
 use Rattle.loop_model.specs.declared.journal.Journal.{Journal}
 use Rattle.loop_model.specs.declared.record.QueueRecord.{QueueRecord}
 use Rattle.loop_model.specs.Dispatches.{act_dispatch, call_dispatch}
 use Rattle.frame_phases.specs.declared.entry.FrameRecord.{FrameRecord}
 use Rattle.dash_script.specs.declared.script.Script.{Script}
-use Rattle.run_model.specs.Asks.{entries_by}
-use Rattle.run_model.specs.Senders.{looper_sender}
 use Rattle.run_model.specs.Run.{EachLooper}
 use Rattle.dash_hall.specs.declared.hall.Hall.{Hall}
 use Rattle.dash_hall.specs.declared.kit.Kit.{Kit}

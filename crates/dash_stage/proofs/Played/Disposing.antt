@@ -15,11 +15,11 @@ use Rattle.loop_model.specs.Entries.{moment_of, is_next, is_disposed}
 use Rattle.dash_script.specs.declared.script.Command.{Command}
 use Rattle.dash_script.specs.declared.script.Command.TheVariants as line
 use Rattle.dash_script.specs.declared.script.Script.{Script}
-use Rattle.run_model.specs.Asks.{Ask, Makes, Unbars, plain, call_of, token_in, entries_by, AreFor}
+use Rattle.run_model.specs.Planned.{Ask, Makes, Unbars, plain, call_of, token_in, entries_by, AreFor, Timed, planned, lines_of, labels_on, lines_on, IsPlanned}
 use Rattle.run_model.specs.Moments.{Mode}
-use Rattle.run_model.specs.Planned.{Timed, planned, lines_of, labels_on, lines_on, IsPlanned, AreAsPlanned}
-use Rattle.run_model.specs.Control.{is_advance, is_halt, is_safe_quit, is_empty, is_closing, are_controls, disposed_count, Before, before, befores, befores_from, befores_after, NotBefore}
-use Rattle.run_model.specs.Acts.{IsSent}
+use Rattle.run_model.specs.Parts.{AreAsPlanned, disposed_count, befores_after}
+use Rattle.run_model.specs.Control.{is_advance, is_halt, is_safe_quit, is_empty, is_closing, are_controls, Before, before, befores, befores_from, NotBefore}
+use Rattle.run_model.specs.Loopers.{IsSent}
 use Rattle.dash_loopers.specs.Loopers.{is_disposal, calls_among}
 use Rattle.dash_stage.proofs.Controller.Controls.{advance_alone}
 use Rattle.dash_stage.specs.Playing.{befores_called}

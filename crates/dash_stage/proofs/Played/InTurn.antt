@@ -16,9 +16,8 @@ use Rattle.choreographer.specs.Known.{Shared as Frames, Known as Pass}
 use Rattle.dash_script.specs.declared.script.Block.{Block}
 use Rattle.dash_script.specs.declared.script.Script.{Script}
 use Rattle.run_model.specs.Planned.{lines_of}
-use Rattle.run_model.specs.FrameAsks.{asks_in, lines_ask}
-use Rattle.run_model.specs.FrameTurns.{in_block, in_round}
-use Rattle.run_model.specs.AskedSoFar.{HaveAsked, asked_so_far}
+use Rattle.run_model.specs.FrameRecords.{asks_in, in_block, in_round}
+use Rattle.run_model.specs.AskedSoFar.{lines_ask, HaveAsked, asked_so_far}
 use Rattle.run_model.proofs.AskedInTurn.{asked_later, nothing_asked, block_asked}
 use Rattle.dash_hall.specs.Hearing.{AtEach, HaveHeard, HasHeardAll, HaveHeardAllAt, PassHasHeard}
 use Rattle.dash_hall.specs.Hosts.{asks_of}

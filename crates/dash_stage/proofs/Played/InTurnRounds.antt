@@ -9,8 +9,8 @@ use Rattle.frame_phases.specs.Parting.{dealt_to}
 use Rattle.dash_script.specs.declared.script.Block.{Block}
 use Rattle.dash_script.specs.declared.script.Script.{Script}
 use Rattle.dash_script.specs.Reading.{HasText}
-use Rattle.run_model.specs.FrameAsks.{FrameAsk, asks_in, asks_to_run}
-use Rattle.run_model.specs.FrameTurns.{in_round, asked_for}
+use Rattle.run_model.specs.FrameRecords.{FrameAsk, asks_in, in_round, asked_for}
+use Rattle.run_model.specs.Parts.{asks_to_run}
 use Rattle.run_model.specs.AskedSoFar.{HaveAsked, asked_so_far}
 use Rattle.run_model.proofs.AskedInTurn.{round_asked}
 use Rattle.dash_hall.specs.Hearing.{AtEach, HaveHeard, HasHeardAll, HaveHeardAllAt, PassesHaveHeard}

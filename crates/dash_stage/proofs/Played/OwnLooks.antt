@@ -15,15 +15,16 @@ use Rattle.loop_model.proofs.Sorting.{AllByRecursion-append}
 use Rattle.frame_phases.specs.declared.entry.FrameEntry.{FrameEntry}
 use Rattle.dash_script.specs.declared.script.Rule.{Rule}
 use Rattle.dash_script.specs.declared.script.Script.{Script}
-use Rattle.run_model.specs.Asks.{Ask, Makes, Unbars, plain, call_of, token_in, AreFor}
+use Rattle.run_model.specs.Planned.{Ask, Makes, Unbars, plain, call_of, token_in, AreFor, frame_handler, gauge_looper, gauge_line, animation_phase}
+use Rattle.run_model.specs.Planned.{animation_id, traversal_phase, traversal_id, frame_message}
 use Rattle.loop_model.specs.declared.reply.Reply.TheVariants.{Dispatched}
-use Rattle.run_model.specs.Senders.{frame_handler, gauge_looper, gauge_line, animation_phase, animation_id, traversal_phase, traversal_id}
-use Rattle.run_model.specs.Planned.{frame_message}
 use Rattle.run_model.specs.Control.{At, NotBefore}
 use Rattle.loop_model.specs.Posts.{post_at}
-use Rattle.run_model.specs.Loopers.{Looper, Sent, Gauge, and_sends, moved, paints, traversal_requested, target_set, object_set, gauge_moved, animation_ran, traversal_ran, callback_ran, fires, reaction, reacted, delivered, and_takes, and_posts_frame, with_gauge, and_starts}
-use Rattle.run_model.specs.Acts.{millis_up, running, dispatched, after_act, Lead, sent_on, IsSent}
-use Rattle.run_model.specs.FrameRuns.{frame_ids}
+use Rattle.run_model.specs.Loopers.{Looper, Sent, Gauge, and_sends, moved, paints, traversal_requested, target_set, object_set, gauge_moved, traversal_ran}
+use Rattle.run_model.specs.Loopers.{callback_ran, fires, reaction, reacted, delivered, and_takes, and_posts_frame, with_gauge, dispatched, after_act, Lead}
+use Rattle.run_model.specs.Loopers.{IsSent}
+use Rattle.run_model.specs.Parts.{animation_ran, and_starts, running, sent_on}
+use Rattle.run_model.specs.FrameRecords.{millis_up, frame_ids}
 use Rattle.dash_loopers.specs.Loopers.{is_disposal}
 
 -- what is asked is a look for a message

@@ -7,7 +7,7 @@ use Rattle.std.proofs.lemmas.List.{map-append, get_or_default, length-replicate}
 use mathlib.Core.Logic.{dite}
 use mathlib.Core.List.{IsPrefix}
 use native.Mathlib.Decide.{ℕ_discrete, dec_lt}
-use Rattle.run_model.specs.Histories.{history_of}
+use Rattle.run_model.specs.Planned.{history_of, Makes, AreFor, entries_by, looper_sender, controller, sender_count}
 use Rattle.loop_model.specs.declared.call.Call.TheVariants.{Next}
 use Rattle.loop_model.specs.declared.entry.Entry.{Entry}
 use Rattle.loop_model.specs.Entries.{moment_of}
@@ -25,15 +25,12 @@ use Rattle.dash_script.specs.declared.script.Script.{Script}
 use Rattle.dash_script.specs.Causes.{phase_count}
 use Rattle.looper_run.specs.Holding.{Sender}
 use Rattle.choreographer.specs.Known.{Known as Pass}
-use Rattle.run_model.specs.Asks.{Makes, AreFor, tokens_in, entries_by}
+use Rattle.run_model.specs.AskedSoFar.{tokens_in}
 use Rattle.run_model.specs.Moments.{Mode, IfLockstep}
-use Rattle.run_model.specs.Senders.{looper_sender, controller, sender_count}
-use Rattle.run_model.specs.Control.{NotBefore, Timing, befores, are_on_time, are_controls, is_quit_by_others, is_controlled, disposed_count}
-use Rattle.run_model.specs.Loopers.{Looper, Sent, first_looper}
-use Rattle.run_model.specs.Acts.{Lead, sent_on, closing, IsSent}
-use Rattle.run_model.specs.FrameRuns.{are_whole, are_run_then}
-use Rattle.run_model.specs.FrameAsks.{asks_in}
-use Rattle.run_model.specs.FrameTurns.{asked_then, AreAskedInTurn}
+use Rattle.run_model.specs.Control.{NotBefore, Timing, befores, are_on_time, are_controls, is_controlled}
+use Rattle.run_model.specs.Parts.{is_quit_by_others, disposed_count, sent_on}
+use Rattle.run_model.specs.Loopers.{Looper, Sent, first_looper, Lead, closing, IsSent, asked_then}
+use Rattle.run_model.specs.FrameRecords.{are_whole, are_run_then, asks_in, AreAskedInTurn}
 use Rattle.run_model.specs.Run.{IsAsPlanned, IsControlled, IsLooperRun, IsFrameRun, EachLooper, setting_of, caused_on}
 use Rattle.run_model.proofs.RunLaws.{AreFor-snoc, sent_on-append, are_on_time-snoc}
 use Rattle.run_model.proofs.Growth.{Lead-entries}

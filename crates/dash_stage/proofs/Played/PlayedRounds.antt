@@ -18,12 +18,11 @@ use Rattle.dash_script.specs.declared.script.Script.{Script}
 use Rattle.dash_script.specs.Reading.{HasText}
 use Rattle.looper_run.specs.Holding.{Sender}
 use Rattle.looper_run.specs.Round.{is_ended}
-use Rattle.run_model.specs.Senders.{controller, looper_sender, sender_count}
-use Rattle.run_model.specs.Asks.{entries_by}
-use Rattle.run_model.specs.Control.{Before, Timing, At, InBlock, NotBefore, is_on_time, are_on_time, befores, befores_after}
+use Rattle.run_model.specs.Planned.{controller, looper_sender, sender_count, entries_by}
+use Rattle.run_model.specs.Control.{Before, Timing, At, InBlock, NotBefore, is_on_time, are_on_time, befores, come_first}
+use Rattle.run_model.specs.Parts.{befores_after, sent_on}
 use Rattle.run_model.specs.Loopers.{Looper, Sent}
-use Rattle.run_model.specs.Acts.{sent_on}
-use Rattle.run_model.specs.FrameAsks.{asks_in}
+use Rattle.run_model.specs.FrameRecords.{asks_in}
 use Rattle.run_model.proofs.RunLaws.{sent_on-append}
 use Rattle.dash_hall.specs.Hearing.{AtEach, HaveHeard}
 use Rattle.dash_hall.specs.Hosts.{asks_of}
@@ -37,7 +36,6 @@ use Rattle.dash_stage.specs.declared.stage.Stage.{Stage}
 use Rattle.dash_stage.specs.Stages.{IsStage, AreLoopers, LoopersGoOn}
 use Rattle.dash_stage.specs.Sharing.{HaveSeenTheSame}
 use Rattle.dash_stage.specs.Timeliness.{whole_on, AreSound, IsAtTime}
-use Rattle.dash_stage.specs.Blocks.{come_first}
 use Rattle.dash_stage.specs.Playing.{HaveComeFirst, befores_called, IsMet, AreCallsOnTime, IsTimelyLooper, IsInTime, AreInTime, IsInStep, PlaysOn}
 use Rattle.dash_stage.proofs.BlockTimes.BlocksFirst.{first_more}
 use Rattle.dash_stage.proofs.Sharing.LooperShares.{looper_parts, own_kept}

@@ -15,10 +15,10 @@ use Rattle.dash_script.specs.declared.script.Script.{Script}
 use Rattle.frame_phases.specs.declared.entry.FrameEntry.{FrameEntry}
 use Rattle.loop_model.proofs.Prefixes.{prefix_trans, prefix_length}
 use Rattle.looper_run.specs.Holding.{Sender}
-use Rattle.run_model.specs.Asks.{AreFor, entries_by, tokens_in}
-use Rattle.run_model.specs.Loopers.{Looper, first_looper}
-use Rattle.run_model.specs.Acts.{Lead, sent_on, IsSent}
-use Rattle.run_model.specs.Senders.{looper_sender}
+use Rattle.run_model.specs.Planned.{AreFor, entries_by, looper_sender}
+use Rattle.run_model.specs.AskedSoFar.{tokens_in}
+use Rattle.run_model.specs.Loopers.{Looper, first_looper, Lead, IsSent}
+use Rattle.run_model.specs.Parts.{sent_on}
 use Rattle.run_model.specs.Control.{are_on_time, befores}
 use Rattle.run_model.proofs.Growth.{Lead-entries}
 use Rattle.dash_hall.specs.declared.hall.Hall.{Hall}
@@ -41,7 +41,7 @@ use Rattle.dash_stage.proofs.Stages.StageTurns.{for_count}
 use Rattle.dash_stage.proofs.Stages.StageWhole.{as_many, looper_entries, looper_sees, looper_made_none, sound_grown, none_behind}
 use Rattle.dash_stage.proofs.Stages.Timely.{timely_others}
 use Rattle.dash_stage.proofs.Played.RoundTimes.{befores_called_of_others}
-use Rattle.run_model.specs.FrameAsks.{as_told, asks_in}
+use Rattle.run_model.specs.FrameRecords.{as_told, asks_in}
 
 -- ---- one looper
 

@@ -22,9 +22,9 @@ use Rattle.loop_model.proofs.LegalLaws.{IsLegal-last}
 use Rattle.dash_script.specs.declared.script.Script.{Script}
 use Rattle.looper_run.specs.Holding.{Sender}
 use Rattle.looper_run.specs.Round.{is_ended}
-use Rattle.run_model.specs.Asks.{entries_by}
-use Rattle.run_model.specs.Senders.{controller, sender_count}
-use Rattle.run_model.specs.Control.{is_advance, is_none_before}
+use Rattle.run_model.specs.Planned.{entries_by, controller, sender_count}
+use Rattle.run_model.specs.Control.{is_advance, is_none_before, come_first}
+use Rattle.run_model.specs.Parts.{is_threads}
 use Rattle.dash_loopers.specs.declared.looper.StageLooper.{StageLooper}
 use Rattle.dash_loopers.specs.Loopers.{IsSoundOn, setting_for, LooperKeeps}
 use Rattle.dash_hall.specs.Hearing.{AtEach, HaveHeard}
@@ -35,7 +35,6 @@ use Rattle.dash_stage.specs.Controllers.{are_advances, time_in, calls_on}
 use Rattle.dash_stage.specs.Stages.{IsStage}
 use Rattle.dash_stage.specs.Sharing.{HaveSeenTheSame}
 use Rattle.dash_stage.specs.Timeliness.{whole_on, AreSound, HasNoneBefore, MovesTo, MovesNot, HaveCome}
-use Rattle.dash_stage.specs.Blocks.{is_threads, come_first}
 use Rattle.dash_stage.specs.AtBlocks.{IsAtBlock}
 use Rattle.dash_stage.specs.Playing.{AreAtBlock, LiesAhead, HaveComeFirst, IsInTime, AreInTime, IsInStep, IsStuck}
 use Rattle.dash_stage.proofs.Controller.Controls.{time_by_controller}

@@ -14,8 +14,7 @@ use Rattle.loop_model.specs.Legal.{IsLegal, MayFollow, IsTimely, IsLegalAfter}
 use Rattle.loop_model.proofs.LegalLaws.{IsLegal-front, IsLegalAfter-back}
 use Rattle.loop_model.proofs.NumberLaws.{AreNumbered-front}
 use Rattle.dash_script.specs.declared.script.Script.{Script}
-use Rattle.run_model.specs.Asks.{entries_by}
-use Rattle.run_model.specs.Senders.{controller, sender_count}
+use Rattle.run_model.specs.Planned.{entries_by, controller, sender_count}
 use Rattle.run_model.specs.Control.{Before, before, befores_from, Timing, At, InBlock, NotBefore, is_on_time, are_on_time}
 use Rattle.run_model.proofs.RunLaws.{entries_by-others, befores_from-append}
 use Rattle.dash_loopers.specs.Loopers.{IsSoundOn, setting_for}

@@ -9,11 +9,10 @@ use Rattle.dash_script.specs.declared.script.Script.{Script}
 use Rattle.dash_script.specs.Causes.{phase_count}
 use Rattle.choreographer.specs.Known.{Known as Pass}
 use Rattle.looper_run.specs.Holding.{Sender}
-use Rattle.run_model.specs.Asks.{AreFor}
-use Rattle.run_model.specs.Acts.{Lead, sent_on, IsSent}
-use Rattle.run_model.specs.Loopers.{Looper, first_looper}
-use Rattle.run_model.specs.FrameRuns.{are_run_then, are_whole}
-use Rattle.run_model.specs.FrameAsks.{as_told, asks_to_run}
+use Rattle.run_model.specs.Planned.{AreFor}
+use Rattle.run_model.specs.Loopers.{Lead, IsSent, Looper, first_looper}
+use Rattle.run_model.specs.Parts.{sent_on, asks_to_run}
+use Rattle.run_model.specs.FrameRecords.{are_run_then, are_whole, as_told}
 use Rattle.dash_hall.specs.declared.kit.Kit.{Kit}
 use Rattle.dash_hall.specs.Growth.{own}
 use Rattle.dash_hall.specs.Hosts.{asks_of}

@@ -17,10 +17,9 @@ use Rattle.loop_model.specs.Entries.{is_halted}
 use Rattle.loop_model.specs.Answers.{is_over, has_disposed, has_halted}
 use Rattle.loop_model.proofs.AfterLaws.{disposed_stays}
 use Rattle.dash_script.specs.declared.script.Script.{Script}
-use Rattle.run_model.specs.Senders.{sender_count}
+use Rattle.run_model.specs.Planned.{sender_count, entries_by}
 use Rattle.looper_run.specs.Holding.{Sender}
 use Rattle.looper_run.specs.Round.{is_ended}
-use Rattle.run_model.specs.Asks.{entries_by}
 use Rattle.dash_hall.specs.declared.hall.Hall.{Hall}
 use Rattle.dash_loopers.specs.declared.player.Parts.{Parts}
 use Rattle.dash_loopers.specs.declared.looper.StageLooper.{StageLooper}

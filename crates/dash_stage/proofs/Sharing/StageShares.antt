@@ -12,9 +12,8 @@ use Rattle.dash_script.specs.declared.script.Block.{Block}
 use Rattle.shared_queue.specs.Known.{Shared, IsOf}
 use Rattle.looper_run.specs.Holding.{Sender}
 use Rattle.looper_run.specs.Round.{is_ended}
-use Rattle.run_model.specs.Senders.{controller}
+use Rattle.run_model.specs.Planned.{controller, lines_of}
 use Rattle.run_model.specs.Moments.{Mode}
-use Rattle.run_model.specs.Planned.{lines_of}
 use Rattle.dash_hall.specs.declared.hall.Hall.{Hall}
 use Rattle.dash_threads.specs.declared.thread.PostingThread.{PostingThread}
 use Rattle.dash_loopers.specs.declared.looper.StageLooper.{StageLooper}

@@ -7,9 +7,10 @@ use Rattle.dash_hall.specs.Hearing.{HaveHeard, AtEach}
 use Rattle.dash_threads.specs.Threads.{ThreadKeeps, IsThread, IsUpTo, labels_kept, tokens_kept}
 use Rattle.dash_stage.specs.Sharing.{OfThreads}
 use Rattle.dash_script.specs.declared.script.Script.{Script}
-use Rattle.run_model.specs.Asks.{tokens_in}
+use Rattle.run_model.specs.AskedSoFar.{tokens_in}
 use Rattle.run_model.specs.Moments.{Mode}
-use Rattle.run_model.specs.Planned.{Timed, lines_of, labels_on, MakeCalls}
+use Rattle.run_model.specs.Planned.{Timed, lines_of, labels_on}
+use Rattle.run_model.specs.Parts.{MakeCalls}
 use Rattle.dash_hall.specs.declared.hall.Hall.{Hall}
 use Rattle.dash_hall.specs.Growth.{own}
 use Rattle.dash_hall.specs.Kits.{ArePostersOf, ArePassesOf}

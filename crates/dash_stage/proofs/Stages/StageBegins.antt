@@ -13,8 +13,8 @@ use Rattle.loop_model.specs.Answers.{clock, has_disposed, has_halted, quit_place
 use Rattle.dash_script.specs.declared.script.Script.{Script}
 use Rattle.looper_run.specs.Holding.{Sender}
 use Rattle.looper_run.specs.Round.{is_ended}
-use Rattle.run_model.specs.Senders.{looper_sender, sender_count}
-use Rattle.run_model.specs.Control.{is_called_in_time, are_before_quit, befores, are_on_time}
+use Rattle.run_model.specs.Planned.{looper_sender, sender_count}
+use Rattle.run_model.specs.Control.{is_called_in_time, are_before_quit, befores, are_on_time, come_first}
 use Rattle.run_model.specs.Loopers.{first_looper}
 use Rattle.run_model.specs.Run.{are_in_order}
 use Rattle.dash_stage.specs.declared.stage.Stage.{Stage}
@@ -24,7 +24,6 @@ use Rattle.dash_loopers.specs.Loopers.{posters_of, until_of, HasNoneDue}
 use Rattle.dash_stage.specs.Sharing.{OfThreads, OfLoopers}
 use Rattle.dash_stage.specs.Stages.{AreThreads, AreLoopers}
 use Rattle.dash_stage.specs.Timeliness.{IsTimelyUpTo, AreTimelyUpTo, AreRested, WaitForNothing}
-use Rattle.dash_stage.specs.Blocks.{come_first}
 use Rattle.dash_stage.specs.Playing.{befores_called, HaveBegun, IsInStep}
 use Rattle.dash_hall.proofs.Badges.{alike_length, queue_count}
 use Rattle.dash_stage.proofs.Sharing.LooperShares.{looper_posters}

@@ -20,7 +20,7 @@ use Rattle.loop_model.proofs.LegalLaws.{IsLegal-last}
 use Rattle.dash_script.specs.declared.script.Script.{Script}
 use Rattle.looper_run.specs.Holding.{Sender}
 use Rattle.looper_run.specs.Round.{is_ended}
-use Rattle.run_model.specs.Senders.{sender_count}
+use Rattle.run_model.specs.Planned.{sender_count}
 use Rattle.run_model.specs.Control.{is_advance, is_halt, is_in_time}
 use Rattle.dash_loopers.specs.declared.looper.StageLooper.{StageLooper}
 use Rattle.dash_loopers.specs.Loopers.{setting_for, HasNoneDue}

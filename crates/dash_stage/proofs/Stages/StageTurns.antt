@@ -18,11 +18,10 @@ use Rattle.dash_script.specs.declared.script.Line.{Line}
 use Rattle.dash_script.specs.declared.script.Script.{Script}
 use Rattle.dash_script.specs.Reading.{rise}
 use Rattle.looper_run.specs.Holding.{Sender}
-use Rattle.run_model.specs.Senders.{controller, sender_count}
-use Rattle.run_model.specs.Asks.{AreFor, entries_by, token_in}
+use Rattle.run_model.specs.Planned.{controller, sender_count, AreFor, entries_by, token_in, Timed, lines_of, labels_on, lines_on}
 use Rattle.run_model.specs.Moments.{in_lockstep}
-use Rattle.run_model.specs.Planned.{Timed, lines_in, lines_of, labels_on, lines_on}
-use Rattle.run_model.specs.Control.{is_in_time, is_called_in_time, are_before_quit, ends_halted, befores, before, InBlock, is_on_time, are_on_time}
+use Rattle.run_model.specs.Parts.{lines_in}
+use Rattle.run_model.specs.Control.{is_in_time, is_called_in_time, are_before_quit, ends_halted, befores, before, InBlock, is_on_time, are_on_time, AreReached}
 use Rattle.run_model.specs.Run.{are_in_order}
 use Rattle.run_model.proofs.RunLaws.{entries_by-append, entries_by-others, lines_on-append}
 use Rattle.dash_threads.specs.declared.thread.PostingThread.{PostingThread}
@@ -37,7 +36,6 @@ use Rattle.dash_stage.specs.Stages.{IsStage, HaveRun, RunOn, LoopersGoOn}
 use Rattle.dash_hall.specs.Hearing.{AtEach, HaveHeard}
 use Rattle.dash_stage.specs.Sharing.{HaveSeenTheSame}
 use Rattle.dash_stage.specs.Timeliness.{whole_on, AreSound, IsTimelyUpTo, AreTimelyUpTo, TurnsOn, EachTurnsOn, HasHaltedLast}
-use Rattle.run_model.specs.Fresh.{AreReached}
 use Rattle.dash_stage.specs.Playing.{AreAtBlock}
 use Rattle.dash_stage.proofs.Played.OwnLooks.{NoneDisposes}
 use Rattle.dash_stage.proofs.Played.Disposing.{lines_dispose_nothing, none_of_all, none_answered}

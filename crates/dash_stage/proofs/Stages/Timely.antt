@@ -20,9 +20,10 @@ use Rattle.loop_model.proofs.Growing.{entry_by_entry}
 use Rattle.loop_model.proofs.LegalLaws.{IsLegal-front}
 use Rattle.loop_model.proofs.NumberLaws.{AreNumbered-front, AreNumbered-last}
 use Rattle.loop_model.proofs.Sorting.{AllByRecursion-filter, AllByRecursion-weaker}
-use Rattle.run_model.specs.Asks.{entries_by}
-use Rattle.run_model.specs.Planned.{Timed, lines_on}
-use Rattle.run_model.specs.Control.{is_quit, is_in_time, each_behind, comes_in_time, is_called_in_time, has_quit_by, comes_before_quit, are_before_quit, ends_halted, Before, before, befores, befores_from, befores_after, Timing, At, InBlock, is_on_time, are_on_time}
+use Rattle.run_model.specs.Planned.{entries_by, Timed, lines_on}
+use Rattle.run_model.specs.Control.{is_quit, is_in_time, each_behind, is_called_in_time, are_before_quit, ends_halted, Before, before, befores, befores_from}
+use Rattle.run_model.specs.Control.{Timing, At, InBlock, is_on_time, are_on_time}
+use Rattle.run_model.specs.Parts.{comes_in_time, has_quit_by, comes_before_quit, befores_after}
 use Rattle.run_model.proofs.ControlLaws.{each_behind-snoc, each_behind-append}
 use Rattle.run_model.proofs.RunLaws.{AreOfOthers, entries_by-append, entries_by-others, entries_by-unchanged, befores_after-append, befores-others, lines_on-append}
 use Rattle.dash_stage.specs.Timeliness.{IsAtTime}

@@ -2,7 +2,8 @@ use Rattle.std.proofs.Common.{◌<◌, ℕ, length, sym, ap, ◌∙◌, subst, a
 use Rattle.std.specs.Prelude.{slice_index_or}
 use Rattle.std.proofs.lemmas.List.{get_or_default, get_or-set_other, length-set}
 use Rattle.looper_run.specs.Round.{is_ended}
-use Rattle.run_model.specs.Moments.{Mode, in_free_mode}
+use Rattle.run_model.specs.Moments.{Mode}
+use Rattle.run_model.specs.ByClock.{in_free_mode}
 use Rattle.dash_loopers.specs.declared.looper.StageLooper.{StageLooper}
 use Rattle.dash_stage.proofs.ByClock.ClockEnds.{each_set, loops_still}
 use Rattle.dash_stage.proofs.free.drain_first.Goals as goal

@@ -1,4 +1,5 @@
-use Rattle.run_model.specs.Moments.{Mode, in_free_mode}
+use Rattle.run_model.specs.Moments.{Mode}
+use Rattle.run_model.specs.ByClock.{in_free_mode}
 use Rattle.dash_stage.proofs.BlockTimes.Limits.{playable}
 use Rattle.dash_stage.proofs.ByClock.ClockEnds.{begins_by_clock}
 use Rattle.dash_stage.proofs.free.played.Goals as goal

@@ -1,6 +1,7 @@
 use Rattle.std.proofs.Common.{true, ◌≡◌, ◌≤◌, false, true≢false, length, sym, ◌∙◌, arith}
 use Rattle.std.proofs.lemmas.Bool.{and_parts}
-use Rattle.run_model.specs.Moments.{Mode, in_free_mode}
+use Rattle.run_model.specs.Moments.{Mode}
+use Rattle.run_model.specs.ByClock.{in_free_mode}
 use Rattle.dash_stage.specs.Controllers.{CanTurn}
 use Rattle.dash_stage.proofs.Controller.Controlling.{poster_count}
 use Rattle.dash_stage.proofs.Controller.GivingUp.{all_rung, still_no_less}

@@ -1,5 +1,5 @@
 use Rattle.std.proofs.Common.{subst}
-use Rattle.run_model.specs.Moments.{in_free_mode}
+use Rattle.run_model.specs.ByClock.{in_free_mode}
 use Rattle.dash_stage.specs.RunEnds.{HasEndedByClock}
 use Rattle.dash_stage.proofs.free.run_free.Goals as goal
 

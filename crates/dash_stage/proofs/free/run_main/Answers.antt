@@ -1,5 +1,6 @@
 use Rattle.std.proofs.Common.{rules, ◌<◌, length, subst}
-use Rattle.run_model.specs.Moments.{Mode, in_free_mode}
+use Rattle.run_model.specs.Moments.{Mode}
+use Rattle.run_model.specs.ByClock.{in_free_mode}
 use Rattle.dash_stage.specs.ByClock.{EachRuns, EachLoops}
 use Rattle.dash_stage.proofs.ByClock.Behind.{runs_kept, behind_first}
 use Rattle.dash_stage.proofs.ByClock.ClockEnds.{can_quit}

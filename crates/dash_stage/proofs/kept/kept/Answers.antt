@@ -3,7 +3,7 @@ use Rattle.std.specs.List.{AllByRecursion}
 use Rattle.loop_model.specs.declared.journal.Journal.{Journal}
 use Rattle.run_model.specs.Moments.{Mode, in_lockstep}
 use Rattle.run_model.specs.Run.{IsAsPlanned, IsControlled}
-use Rattle.run_model.specs.Senders.{controller}
+use Rattle.run_model.specs.Planned.{controller}
 use Rattle.dash_hall.specs.Hearing.{seen_by, HaveSeenAll}
 use Rattle.dash_threads.specs.Threads.{AreByClock}
 use Rattle.dash_stage.specs.Controllers.{HasClosedIn}

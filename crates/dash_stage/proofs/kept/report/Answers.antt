@@ -4,11 +4,10 @@ use Rattle.loop_model.specs.declared.journal.Journal.{Journal}
 use Rattle.loop_model.specs.declared.record.QueueRecord.{QueueRecord}
 use Rattle.frame_phases.specs.declared.entry.FrameRecord.{FrameRecord}
 use Rattle.run_model.specs.Moments.{in_lockstep}
-use Rattle.run_model.specs.Run.{IsAsPlanned, IsControlled, IsFrameRun, IsLooperRun, IsBeforeQuit, IsTimely, EachLooper, main_ends_halted}
-use Rattle.run_model.specs.Senders.{controller}
-use Rattle.run_model.specs.Histories.{history_of}
-use Rattle.run_model.specs.Moves.{moves, AreMovedTogether}
-use Rattle.dash_stage.specs.Blocks.{AreBlocksFirst, AreBlocksReached}
+use Rattle.run_model.specs.Run.{IsAsPlanned, IsControlled, IsFrameRun, IsLooperRun, IsTimely, EachLooper, main_ends_halted}
+use Rattle.run_model.specs.Parts.{IsBeforeQuit}
+use Rattle.run_model.specs.Planned.{controller, history_of}
+use Rattle.run_model.specs.Control.{moves, AreMovedTogether, AreBlocksFirst, AreBlocksReached}
 use Rattle.dash_stage.specs.Records.{AreQueueRecords, AreJournals, AreFrameRecords}
 use Rattle.dash_stage.proofs.kept.report.Goals as goal
 use Rattle.dash_stage.proofs.Ends.TimelyRecords.{ended_in_step}

@@ -8,7 +8,7 @@ use Rattle.dash_hall.specs.Kits.{AreQueuesOf}
 use Rattle.dash_hall.proofs.Badges.{queue_count as queues_counted}
 use Rattle.dash_hall.proofs.HallSteps.{within_parts}
 use Rattle.shared_queue.specs.Known.{Shared}
-use Rattle.run_model.specs.Histories.{history_of}
+use Rattle.run_model.specs.Planned.{history_of}
 use Rattle.dash_stage.specs.Ending.{AreSealed}
 use Rattle.dash_stage.proofs.Ends.HallEnds.{next_have, next_queue, next_constants, kept_looper, retires_more, histories_more, retired_all}
 use Rattle.dash_stage.proofs.Controller.SealedEnds.{has_list, sealed_next, sealed_rest}

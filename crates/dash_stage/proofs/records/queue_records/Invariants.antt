@@ -2,7 +2,8 @@ use Rattle.std.proofs.Common.{◌≡◌, ◌++◌, length}
 use Rattle.std.specs.List.{AllByRecursion}
 use Rattle.std.specs.Vec.Iter.{into_iter_items, into_iter_len}
 use Rattle.run_model.specs.Moments.{Mode}
-use Rattle.run_model.specs.Run.{IsRecordOf, all_entries}
+use Rattle.run_model.specs.Run.{IsRecordOf}
+use Rattle.run_model.specs.Parts.{all_entries}
 use Rattle.dash_hall.specs.Kits.{AreQueuesOf}
 use Rattle.dash_stage.specs.Ending.{AreSealed}
 use Rattle.dash_stage.specs.Records.{HaveCalledByClock}

@@ -1,5 +1,5 @@
 use Rattle.std.proofs.Common.{arith, []}
-use Rattle.run_model.specs.FrameTurns.{in_round}
+use Rattle.run_model.specs.FrameRecords.{in_round}
 use Rattle.run_model.specs.Moments.{in_lockstep}
 use Rattle.dash_stage.proofs.BlockTimes.Limits.{playable}
 use Rattle.dash_stage.proofs.Moves.MovesRecords.{moved_at_start}

@@ -1,5 +1,5 @@
 use Rattle.std.proofs.Common.{◌<◌, refl, arith}
-use Rattle.run_model.specs.Senders.{controller}
+use Rattle.run_model.specs.Planned.{controller}
 use Rattle.dash_hall.proofs.Hearing.{ready_is}
 use Rattle.dash_stage.proofs.ByClock.Behind.{threads_still, kept_then, hears_on, hears_kept}
 use Rattle.dash_stage.proofs.Controller.Controlling.{turns_on, in_queues, in_posters, has_poster, poster_count}

@@ -1,6 +1,6 @@
 use Rattle.std.proofs.Common.{◌≡◌, ◌++◌, ◌∷◌, [], ◌∙◌, List, length, ap, sym, subst}
 use Rattle.shared_queue.specs.Ends.{AreInOrder, HasCalls, HaveSealed}
-use Rattle.run_model.specs.Histories.{history_of}
+use Rattle.run_model.specs.Planned.{history_of}
 use Rattle.inbox_queue.specs.Turned.{Sender}
 use Rattle.inbox_queue.proofs.Keepings.{last_sealed}
 use Rattle.inbox_queue.proofs.Ending.{all_in_order, as_kept}

@@ -1,6 +1,6 @@
 use Rattle.std.proofs.Common.{refl}
 use Rattle.looper_run.specs.Holding.{held}
-use Rattle.run_model.specs.Moments.{in_free_mode}
+use Rattle.run_model.specs.ByClock.{in_free_mode}
 use Rattle.looper_run.proofs.Asking.{unless_weaker}
 use Rattle.dash_loopers.proofs.LooperByClock.{pulse_or_none_by}
 use Rattle.dash_loopers.proofs.LooperMoments.{pulse_at}

@@ -1,7 +1,7 @@
 use Rattle.std.proofs.Common.{ap, ◌∙◌}
 use Rattle.looper_run.proofs.Rounds.{round_any}
 use Rattle.looper_run.specs.Holding.{workplace}
-use Rattle.run_model.specs.Moments.{in_free_mode}
+use Rattle.run_model.specs.ByClock.{in_free_mode}
 use Rattle.dash_loopers.specs.declared.looper.StageLooper.{StageLooper}
 use Rattle.dash_loopers.proofs.LooperQueue.{within_queues, at_queue_here}
 use Rattle.dash_loopers.proofs.LooperLooped.{looped_by_round, looped_here}

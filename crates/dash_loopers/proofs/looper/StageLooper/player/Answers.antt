@@ -1,5 +1,5 @@
 use Rattle.std.proofs.Common.{◌≡◌, Some}
-use Rattle.run_model.specs.Moments.{in_free_mode}
+use Rattle.run_model.specs.ByClock.{in_free_mode}
 use Rattle.dash_loopers.proofs.LooperKits.{serves_now}
 use Rattle.dash_loopers.proofs.LooperMoments.{playing_at_start}
 use Rattle.dash_loopers.proofs.looper.StageLooper.player.Goals as goal

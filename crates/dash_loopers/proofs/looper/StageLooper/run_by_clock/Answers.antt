@@ -1,5 +1,5 @@
 use Rattle.std.proofs.Common.{◌||◌, suc, refl, inl, inr, sym, ap, ap₂, ◌∙◌}
-use Rattle.run_model.specs.Moments.{in_free_mode}
+use Rattle.run_model.specs.ByClock.{in_free_mode}
 use Rattle.dash_loopers.specs.Loopers.{is_given_up}
 use Rattle.looper_run.specs.Round.{is_ended}
 use Rattle.dash_loopers.proofs.LooperNext.{stays_on, looped_self, looped_on}

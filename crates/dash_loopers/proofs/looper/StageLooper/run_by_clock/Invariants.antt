@@ -1,7 +1,7 @@
 use Rattle.std.proofs.Common.{◌≡◌, ℕ, true}
 use Rattle.std.specs.Prelude.{◌||◌}
 use Rattle.looper_run.specs.Round.{is_ended}
-use Rattle.run_model.specs.Moments.{in_free_mode}
+use Rattle.run_model.specs.ByClock.{in_free_mode}
 use Rattle.dash_loopers.specs.Loopers.{is_given_up}
 use Rattle.dash_loopers.specs.Looped.{HasLooped, HasGoneRound}
 use Rattle.dash_loopers.proofs.looper.StageLooper.run_by_clock.Given as goal

@@ -1,7 +1,7 @@
 use Rattle.std.proofs.Common.{◌≡◌, ℕ, ◌++◌, List, map, Option, None, ap, ◌∙◌}
 use Rattle.looper_run.specs.Asked.{Asked, Listening, Listen, with_asked, asked_by_round}
 use Rattle.looper_run.specs.Holding.{workplace}
-use Rattle.run_model.specs.Moments.{in_free_mode}
+use Rattle.run_model.specs.ByClock.{in_free_mode}
 use Rattle.dash_loopers.specs.declared.looper.StageLooper.{StageLooper}
 use Rattle.dash_loopers.proofs.LooperKits.{looper_of}
 use Rattle.dash_loopers.proofs.LooperMoments.{setting_free}

@@ -1,5 +1,5 @@
 use Rattle.std.proofs.Common.{refl, ◌∙◌}
-use Rattle.run_model.specs.Moments.{in_free_mode}
+use Rattle.run_model.specs.ByClock.{in_free_mode}
 use Rattle.dash_loopers.specs.Looped.{with_parts}
 use Rattle.dash_loopers.proofs.LooperKits.{looper_of, parts_of}
 use Rattle.dash_loopers.proofs.LooperLooped.{looped_with}

@@ -1,7 +1,7 @@
 use Rattle.std.proofs.Common.{◌≡◌, ap, ◌∙◌, refl, sym}
 use Rattle.choreographer.proofs.Phases.{on_ok}
 use Rattle.handler_post.specs.declared.handler.Handler.{Handler}
-use Rattle.run_model.specs.Senders.{frame_handler}
+use Rattle.run_model.specs.Planned.{frame_handler}
 use Rattle.run_model.specs.Loopers.{object_set, reacted}
 use Rattle.dash_loopers.specs.Played.{calls_of}
 use Rattle.dash_loopers.proofs.PlaySteps.{delivered_object, delivered_plain, object_painted, still_delivered, starts_none}

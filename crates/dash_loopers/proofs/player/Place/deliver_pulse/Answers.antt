@@ -1,5 +1,5 @@
 use Rattle.std.proofs.Common.{◌≡◌, ◌==◌, ℕ, true, ap, subst, refl}
-use Rattle.run_model.specs.FrameRuns.{nanos_of}
+use Rattle.run_model.specs.FrameRecords.{nanos_of}
 use Rattle.dash_hall.specs.declared.uptime.Still.{Still}
 use Rattle.dash_hall.specs.Hosts.{origin_now}
 use Rattle.frame_phases.specs.Pulses.{is_pulse_if_any}

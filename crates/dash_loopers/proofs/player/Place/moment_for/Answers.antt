@@ -1,6 +1,6 @@
 use Rattle.std.proofs.Common.{◌≡◌, true, false, sym, ap, ◌∙◌}
 use Rattle.handler_post.specs.declared.handler.Handler.{Handler}
-use Rattle.run_model.specs.Senders.{frame_handler}
+use Rattle.run_model.specs.Planned.{frame_handler}
 use Rattle.dash_loopers.proofs.LooperClock.{rules_not_frame, rules_some, rules_none}
 use Rattle.dash_loopers.proofs.player.Place.moment_for.Goals as goal
 

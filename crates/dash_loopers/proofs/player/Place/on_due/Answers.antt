@@ -2,8 +2,7 @@ use Rattle.std.proofs.Common.{ℕ, refl, ap, subst, arith}
 use Rattle.std.specs.Prelude.{◌==◌}
 use Rattle.choreographer.specs.Calls.{DueBy}
 use Rattle.choreographer.proofs.Recorded.{due_records}
-use Rattle.run_model.specs.FrameAsks.{asks_in}
-use Rattle.run_model.specs.FrameRuns.{nanos_of}
+use Rattle.run_model.specs.FrameRecords.{asks_in, nanos_of}
 use Rattle.loop_model.proofs.Prefixes.{prefix_self}
 use Rattle.dash_hall.specs.declared.uptime.Still.{Still}
 use Rattle.dash_hall.specs.Hosts.{origin_now}

@@ -1,7 +1,7 @@
 use Rattle.std.proofs.Common.{refl}
 use Rattle.std.specs.Prelude.{◌==◌}
 use Rattle.looper_run.specs.Holding.{held}
-use Rattle.run_model.specs.FrameRuns.{nanos_of}
+use Rattle.run_model.specs.FrameRecords.{nanos_of}
 use Rattle.loop_model.specs.declared.journal.Route.TheVariants.{Callback}
 use Rattle.message_slot.specs.Letter.{post_of}
 use Rattle.dash_loopers.specs.Played.{calls_of}

@@ -1,6 +1,7 @@
 use Rattle.std.proofs.Common.{◌∙◌, List, sym, subst, arith}
 use Rattle.std.proofs.lemmas.List.{with_items_is}
-use Rattle.run_model.specs.Moments.{Mode, in_free_mode}
+use Rattle.run_model.specs.Moments.{Mode}
+use Rattle.run_model.specs.ByClock.{in_free_mode}
 use Rattle.dash_hall.specs.Hearing.{AtEach}
 use Rattle.dash_threads.specs.Threads.{AreByClock}
 use Rattle.dash_loopers.specs.declared.looper.StageLooper.{StageLooper}

@@ -2,7 +2,7 @@ use Rattle.std.proofs.Common.{◌≡◌, inl, ◌<◌, ◌≤◌, ◌+◌, ◌�
 use Rattle.std.specs.Prelude.{slice_index_or}
 use Rattle.std.proofs.lemmas.List.{take_all}
 use Rattle.dash_script.specs.declared.script.Block.{Block}
-use Rattle.run_model.specs.FrameTurns.{in_block}
+use Rattle.run_model.specs.FrameRecords.{in_block}
 use Rattle.dash_stage.specs.declared.stage.Stage.{Stage}
 use Rattle.dash_stage.specs.Steps.{StageAt, RestsAt, ComesBefore, IsAtNext}
 use Rattle.dash_stage.proofs.BlockTimes.Blocks.{blocks_next, blocks_past}

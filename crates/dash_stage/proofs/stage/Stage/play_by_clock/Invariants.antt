@@ -1,4 +1,4 @@
-use Rattle.run_model.specs.Moments.{in_free_mode}
+use Rattle.run_model.specs.ByClock.{in_free_mode}
 use Rattle.dash_stage.specs.RunEnds.{IsClosingByClock}
 use Rattle.dash_stage.proofs.stage.Stage.play_by_clock.Given as goal
 

@@ -2,7 +2,8 @@ use Rattle.std.proofs.Common.{◌≡◌, ◌<◌, ◌∙◌, false, List, length
 use Rattle.std.specs.Prelude.{slice_index_or}
 use Rattle.std.proofs.lemmas.List.{with_items_is}
 use Rattle.looper_run.specs.Round.{is_ended}
-use Rattle.run_model.specs.Moments.{Mode, in_free_mode}
+use Rattle.run_model.specs.Moments.{Mode}
+use Rattle.run_model.specs.ByClock.{in_free_mode}
 use Rattle.dash_hall.specs.Hearing.{AtEach}
 use Rattle.dash_threads.specs.declared.thread.PostingThread.{PostingThread}
 use Rattle.dash_threads.specs.Threads.{AreByClock}

@@ -6,7 +6,7 @@ use Rattle.dash_threads.proofs.ThreadPlaces.{its_pass, its_phases, thread_with_p
 use Rattle.dash_hall.proofs.Badges.{alike_length, frame_turn_badge, choreographer_count}
 use Rattle.dash_threads.proofs.thread.PostingThread.remove_frame.Goals as goal
 use Rattle.dash_threads.proofs.thread.PostingThread.remove_frame.Goals.{else-place-len-via-then-place-len+then-place-len-2+else-phase-phases, else-place-len-via-then-place-len+else-place-len-2, else-place-len-via-else-place-len}
-use Rattle.run_model.specs.FrameAsks.{Removes}
+use Rattle.run_model.specs.FrameRecords.{Removes}
 use Rattle.dash_hall.specs.Hosts.{AsksFor}
 use Rattle.dash_hall.specs.Kits.{frame_badge_of, frame_badge_for}
 

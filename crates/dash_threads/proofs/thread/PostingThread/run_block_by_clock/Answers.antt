@@ -1,5 +1,6 @@
 use Rattle.std.proofs.Common.{◌+◌, sym, subst, arith}
-use Rattle.run_model.specs.Moments.{Mode, in_free_mode}
+use Rattle.run_model.specs.Moments.{Mode}
+use Rattle.run_model.specs.ByClock.{in_free_mode}
 use Rattle.dash_threads.specs.declared.thread.PostingThread.{PostingThread}
 use Rattle.dash_threads.proofs.ThreadBlocks.{IsAtLine, by_line, on_line, past_lines}
 use Rattle.dash_threads.proofs.thread.PostingThread.run_block_by_clock.Goals as goal

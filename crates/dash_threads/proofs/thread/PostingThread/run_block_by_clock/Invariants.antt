@@ -1,4 +1,4 @@
-use Rattle.run_model.specs.Moments.{in_free_mode}
+use Rattle.run_model.specs.ByClock.{in_free_mode}
 use Rattle.dash_threads.proofs.ThreadBlocks.{IsAtLine}
 use Rattle.dash_threads.proofs.thread.PostingThread.run_block_by_clock.Given as goal
 

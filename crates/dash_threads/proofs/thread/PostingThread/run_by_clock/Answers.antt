@@ -1,7 +1,8 @@
 use Rattle.std.proofs.Common.{◌≡◌, ◌<◌, ◌≤◌, ◌∙◌, List, length, get_or, ap, subst, arith}
 use Rattle.std.proofs.lemmas.List.{take_all}
 use Rattle.dash_script.specs.declared.script.Block.{Block}
-use Rattle.run_model.specs.Moments.{Mode, in_free_mode}
+use Rattle.run_model.specs.Moments.{Mode}
+use Rattle.run_model.specs.ByClock.{in_free_mode}
 use Rattle.run_model.specs.Planned.{lines_of}
 use Rattle.dash_threads.specs.Threads.{IsUpTo, passes_more}
 use Rattle.dash_threads.proofs.ThreadBlocks.{runs_on, block_goes_on, block_passed}

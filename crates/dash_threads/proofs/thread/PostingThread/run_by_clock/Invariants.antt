@@ -1,5 +1,5 @@
 use Rattle.std.proofs.Common.{[], take}
-use Rattle.run_model.specs.Moments.{in_free_mode}
+use Rattle.run_model.specs.ByClock.{in_free_mode}
 use Rattle.run_model.specs.Planned.{lines_of}
 use Rattle.dash_threads.specs.Threads.{IsUpTo}
 use Rattle.dash_threads.specs.AtWork.{RunsLines}

@@ -1,5 +1,6 @@
 use Rattle.std.proofs.Common.{Bool, true≢false, refl, sym, ap, ◌∙◌, subst}
-use Rattle.run_model.specs.Moments.{Mode, in_free_mode}
+use Rattle.run_model.specs.Moments.{Mode}
+use Rattle.run_model.specs.ByClock.{in_free_mode}
 use Rattle.dash_threads.specs.declared.thread.PostingThread.{PostingThread}
 use Rattle.dash_threads.specs.Threads.{TakesAt, rungs_of, more_for, looper_woken}
 use Rattle.dash_threads.proofs.ThreadNudges.{takes_at}

@@ -1,0 +1,109 @@
+-- Parts of the definitions of a run, which are written out there, by the names that proofs use.
+use Rattle.std.specs.Prelude.{ℕ, ◌==◌, Bool, true, ◌&&◌, ◌||◌, not, nat_lt, List, [], ◌∷◌, Option, count_by, if◌then◌else◌, ◌≡◌, map, ◌+◌, length, filter}
+use Rattle.std.specs.Prelude.{codes, slice_get, false}
+use Rattle.std.specs.List.{list_any, list_all, range_with_len}
+use Rattle.std.specs.Fmt.{decimal}
+use Rattle.std.specs.Option.{option_map_or}
+use Rattle.loop_model.specs.declared.entry.Entry.{Entry}
+use Rattle.loop_model.specs.Entries.{moment_of, is_quit_done, is_disposed}
+use Rattle.loop_model.specs.Base.{empty_base}
+use Rattle.loop_model.specs.Answers.{has_disposed}
+use Rattle.loop_model.specs.declared.record.QueueRecord.{QueueRecord}
+use Rattle.loop_model.specs.declared.post.Post.{Post as PostData}
+use Rattle.loop_model.specs.declared.call.Call.TheVariants as call
+use Rattle.line_words.specs.Words.{Words}
+use Rattle.frame_phases.specs.declared.entry.FrameEntry.{FrameEntry}
+use Rattle.dash_script.specs.declared.script.Script.{Script}
+use Rattle.dash_script.specs.declared.script.Block.{Block}
+use Rattle.run_model.specs.Control.{is_in_time, is_quit, is_advance, is_fresh, befores_from, befores, Before, InBlock, are_on_time, are_before_quit}
+use Rattle.run_model.specs.FrameRecords.{FrameAt, frame_moments, nanos_of, place_after, frames_after, FrameAsk, Runs}
+use Rattle.run_model.specs.Loopers.{Looper, Gauge, Sent, starts_frame, gauge_moved}
+use Rattle.run_model.specs.Planned.{Timed, IsPlanned, lines_on, lines_of, labels_on, history_of, AreFor, controller, entries_by, times_on}
+use Rattle.run_model.specs.Text.{subject}
+use Rattle.run_model.specs.Moments.{Mode, IfFree, AreOfClockAfter}
+use Rattle.run_model.specs.Run.{has_called_before}
+
+abbrev pub comes_in_time : ℕ → List Entry → Entry → Bool
+comes_in_time sender past e = not (e.sender == sender) || is_in_time past e.call e.reply
+
+abbrev pub has_quit_by : ℕ → List Entry → Bool
+has_quit_by sender es = list_any (λ e. e.sender == sender && is_quit e.call) es
+
+abbrev pub comes_before_quit : ℕ → ℕ → List Entry → Entry → Bool
+comes_before_quit threads sender past e = not (nat_lt e.sender threads) || not (has_quit_by sender past)
+
+abbrev pub fresh_behind : (Entry → Bool) → Bool → Entry → Bool
+fresh_behind theirs fresh e = is_advance e.call || (fresh && theirs e)
+
+abbrev pub moves_to : ℕ → Entry → Bool
+moves_to time e = is_advance e.call && moment_of e.call == time
+
+abbrev pub befores_after : ℕ → List Entry → List Entry → List Before
+befores_after sender past es = befores_from (λ e. e.sender == sender) past es
+
+abbrev pub disposed_count : List Entry → ℕ
+disposed_count es = count_by (λ e. is_disposed e.reply) es
+
+abbrev pub is_quit_by_others : ℕ → List Entry → Bool
+is_quit_by_others sender es = list_any (λ e. is_quit_done e.reply && not (e.sender == sender)) es
+
+abbrev pub is_threads : ℕ → Entry → Bool
+is_threads threads e = nat_lt e.sender threads
+
+abbrev pub comes_first : ℕ → List Entry → Entry → Bool
+comes_first threads past e = not (is_threads threads e) || (has_disposed (empty_base 0) past || is_fresh (is_threads threads) past)
+
+abbrev pub is_run_then : List FrameEntry → FrameAt → Bool
+is_run_then fs x = list_all (λ n. n == nanos_of x.now) (frame_moments fs x.place)
+
+abbrev pub is_whole : ℕ → List FrameEntry → FrameAt → Bool
+is_whole phases fs x = length (frame_moments fs x.place) == phases + 1
+
+abbrev pub running : Option ℕ → ℕ → Looper → Looper
+running frame now a = record a { painted = []; place = place_after a.place frame; frames = frames_after a.frames frame now }
+
+abbrev pub and_starts : ℕ → PostData → Looper → Looper
+and_starts q m a = record a { awaits = a.awaits && not (starts_frame q m) }
+
+abbrev pub animation_ran : Script → ℕ → ℕ → ℕ → Gauge → Looper → Looper
+animation_ran s q now g x a = if x.animating then gauge_moved s q now g x a else a
+
+abbrev pub sent_on : ℕ → List Sent → List Sent
+sent_on q xs = filter (λ x. x.queue == q) xs
+
+abbrev pub lines_in : ℕ → Block → List Timed
+lines_in thread b = map (λ l. record { time = b.time; command = l.command }) (filter (λ l. l.thread == thread) b.lines)
+
+abbrev pub MakeCalls : Mode → Script → List ℕ → ℕ → List Timed → List Entry → Type 0
+MakeCalls m s labels q ls es = AreFor (IsPlanned m s labels q) [] (lines_on s labels q ls) es
+
+abbrev pub all_entries : Entry → Bool
+all_entries e = true
+
+abbrev pub IsBeforeQuit : Script → QueueRecord → Type 0
+IsBeforeQuit s r = are_before_quit s.threads (controller s) (history_of r) ≡ true
+
+abbrev pub IsThreadOnTime : Script → QueueRecord → ℕ → Type 0
+IsThreadOnTime s r thread =
+    are_on_time (map (λ l. InBlock l.time) (lines_on s (labels_on r.looper (lines_of thread s.blocks)) r.looper (lines_of thread s.blocks)))
+    (befores thread (history_of r)) ≡ true
+
+abbrev pub dispatch_words : ℕ → ℕ → PostData → Words
+dispatch_words now n p = decimal now ∷ codes "dispatch" ∷ decimal n ∷ subject p
+
+abbrev pub AreOfClock : Mode → (Entry → Bool) → List Entry → Type 0
+AreOfClock m test es = IfFree m (AreOfClockAfter m test [] es)
+
+abbrev pub asks_to_run : List FrameAt → List FrameAsk
+asks_to_run xs = map (λ x. Runs (nanos_of x.now)) xs
+
+abbrev pub AreAsPlanned : Mode → Script → ℕ → ℕ → List Entry → Type 0
+AreAsPlanned m s thread q es =
+    AreFor (IsPlanned m s (labels_on q (lines_of thread s.blocks)) q) [] (lines_on s (labels_on q (lines_of thread s.blocks)) q (lines_of thread s.blocks))
+    (entries_by thread es)
+
+abbrev pub comes_in_order : Script → ℕ → List Entry → Entry → Bool
+comes_in_order s q past e =
+    not (nat_lt e.sender s.threads)
+    || option_map_or (λ time. list_all (has_called_before s q time past) (range_with_len 0 s.threads))
+    (slice_get (times_on s q e.sender) (length (entries_by e.sender past))) false
