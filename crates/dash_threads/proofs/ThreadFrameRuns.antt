@@ -24,7 +24,7 @@ use mathlib.Core.List.{IsPrefix}
 use Rattle.dash_hall.specs.Growth.{own, Makes}
 use Rattle.dash_hall.specs.ByClock.{IsByClock}
 use Rattle.dash_hall.proofs.Clocking.{clocked_same}
-use Rattle.dash_hall.specs.Requests.{call_made}
+use Rattle.dash_hall.specs.QueueCalls.{call_made}
 use Rattle.dash_hall.specs.Hosts.{asks_of, AsksFor, PostsFrame}
 use Rattle.dash_threads.specs.Threads.{HasCalled, AreByClock, HasAsked, HasTurned, KeepsBarriers, Progress, CallsAt}
 use Rattle.dash_threads.proofs.ThreadText.{line_passes}

@@ -11,7 +11,7 @@ use Rattle.run_model.specs.Asks.{Makes, call_of}
 use Rattle.run_model.specs.Planned.{planned}
 use Rattle.dash_threads.specs.declared.labels.Labelled.{Labelled}
 use Rattle.dash_threads.specs.declared.planned.PlannedCall.{PlannedCall}
-use Rattle.dash_hall.specs.Requests.{call_made}
+use Rattle.dash_hall.specs.QueueCalls.{call_made}
 use Rattle.dash_threads.specs.Planning.{call_planned}
 
 -- the call, where it is to be made on this queue
