@@ -3,7 +3,6 @@ pub mod GivingUp
 pub mod Blocks
 pub mod AtBlocks
 pub mod Staged
-pub mod Outcomes
 pub mod Records
 pub mod Runs
 pub mod Stages
