@@ -30,7 +30,7 @@ use Rattle.handler_post.specs.Ways.{IsReady, IsSameWay, MadeNone}
 use Rattle.handler_post.specs.Sends.{Sending, Erasing, Sends, Erases}
 use Rattle.dash_hall.specs.Slots.{GivesBackAll}
 use Rattle.dash_hall.specs.Growth.{own, GoesOn, TurnsOnce, Makes, WayCalled, no_token}
-use Rattle.dash_hall.specs.Requests.{IfSent, IfErased}
+use Rattle.dash_hall.specs.QueueCalls.{IfSent, IfErased}
 use Rattle.dash_hall.proofs.Slots.{gives_back_none, in_vain_gives_back, returned_gives_back, same_messages, one_put, some_gone, one_gone}
 use Rattle.dash_hall.proofs.Growing.{Keeps, one_turn, turns_none, made_none, enters, leaves, makes_none}
 

@@ -29,10 +29,8 @@ use Rattle.run_model.specs.Moments.{Mode, IfFree, IsMoment, has_moment, IsOfCloc
 use Rattle.dash_hall.specs.declared.calls.QueueCall.{QueueCall}
 use Rattle.dash_hall.specs.declared.calls.QueueCall.TheVariants as on_queue
 use Rattle.dash_hall.specs.Growth.{own, Makes, BarsOf, QuitsOf}
-use Rattle.dash_hall.specs.Requests.{call_made, call_by, tokens_of, IsAtItsMoment}
+use Rattle.dash_hall.specs.QueueCalls.{call_made, tokens_of, IsAtItsMoment}
 use Rattle.dash_hall.specs.ByClock.{is_by, IsByClock, IsInMode}
-use Rattle.dash_hall.specs.declared.handlers.Request.{Request}
-use Rattle.dash_hall.specs.declared.handlers.Request.TheVariants as request
 use Rattle.handler_post.specs.declared.handler.Handler.{Handler}
 use Rattle.dash_hall.proofs.Growing.{turn_makes, own_of_one}
 
@@ -180,15 +178,6 @@ plain_moment (Next now) = refl
 plain_moment (Advance now) = refl
 plain_moment (Halt now) = refl
 
-pub no_moment_by : (h : Handler) (r : Request) → has_moment (call_by h r) ≡ false
-no_moment_by h (request.Send what arg obj when) = refl
-no_moment_by h (request.SendAsync what when) = refl
-no_moment_by h (request.SendFront what) = refl
-no_moment_by h (request.PostCallback id now delay) = refl
-no_moment_by h (request.RemoveMessages what) = refl
-no_moment_by h (request.RemoveCallbacks id) = refl
-no_moment_by h request.RemoveAll = refl
-
 pub made_moment : (p q : Sender) (c : Call) (tokens : List ℕ) (made : Makes p q c tokens) → has_moment c ≡ false → has_moment made.entry.call ≡ false
 made_moment p q c tokens made none = sym (plain_moment made.entry.call) ∙ (ap has_moment made.makes ∙ none)
 
@@ -217,7 +206,8 @@ clocked_same m p q sender begins same by = clocked_quiet m p q [] sender begins 
 
 -- what is so of the moment that a call names, where it names one
 abbrev pub IfTimed : (ℕ → Type 0) → QueueCall → Type 0
-IfTimed P (on_queue.ByHandler handler request) = Unit {0}
+IfTimed P (on_queue.Send post) = Unit {0}
+IfTimed P (on_queue.Remove filter) = Unit {0}
 IfTimed P (on_queue.PostBarrier now) = P now
 IfTimed P (on_queue.RemoveBarrier token) = Unit {0}
 IfTimed P (on_queue.Quit safe now) = P now
@@ -225,7 +215,8 @@ IfTimed P (on_queue.Quit safe now) = P now
 -- its moment is the clock's, or the queue's time
 pub clocked_call : (m : Mode) (c : QueueCall) (token : Option ℕ) (p q : Sender) → IsInMode m p → IfTimed (λ u. IfFree m (IsMoment m u)) c
     → q.sender ≡ p.sender → IsPrefix p.view.seen q.view.seen → Makes p q (call_made c) (tokens_of token) → IsAtItsMoment c token p q → IsByClock m p → IsByClock m q
-clocked_call m (on_queue.ByHandler h r) token p q mode moment sender begins made at by = clocked_makes m p q (call_by h r) (tokens_of token) sender begins (no_moment_by h r) made by
+clocked_call m (on_queue.Send post) token p q mode moment sender begins made at by = clocked_makes m p q (plain (Post post)) (tokens_of token) sender begins refl made by
+clocked_call m (on_queue.Remove f) token p q mode moment sender begins made at by = clocked_makes m p q (Remove f) (tokens_of token) sender begins refl made by
 clocked_call m (on_queue.PostBarrier u) None p q mode moment sender begins made at by = absurd at
 clocked_call m (on_queue.PostBarrier u) (Some k) p q mode moment sender begins made at by = clocked_at m Barrier p q u mode (λ time at h. h) moment (bars_enter p q u k at) by
 clocked_call m (on_queue.RemoveBarrier k) token p q mode moment sender begins made at by = clocked_makes m p q (Unbarrier k) (tokens_of token) sender begins refl made by
@@ -234,7 +225,8 @@ clocked_call m (on_queue.Quit safe u) token p q mode moment sender begins made a
 -- it is no earlier than it was asked for
 pub no_earlier_call : (m : Mode) (time : ℕ) (c : QueueCall) (token : Option ℕ) (p q : Sender) → IsInMode m p → IfTimed (λ u. IfFree m (time ≤ u)) c
     → (made : Makes p q (call_made c) (tokens_of token)) → IsAtItsMoment c token p q → IsNoEarlier m time made.entry.call
-no_earlier_call m time (on_queue.ByHandler h r) token p q mode late made at = no_moment_early m time made.entry.call (made_moment p q (call_by h r) (tokens_of token) made (no_moment_by h r))
+no_earlier_call m time (on_queue.Send post) token p q mode late made at = no_moment_early m time made.entry.call (made_moment p q (plain (Post post)) (tokens_of token) made refl)
+no_earlier_call m time (on_queue.Remove f) token p q mode late made at = no_moment_early m time made.entry.call (made_moment p q (Remove f) (tokens_of token) made refl)
 no_earlier_call m time (on_queue.PostBarrier u) None p q mode late made at = absurd at
 no_earlier_call m time (on_queue.PostBarrier u) (Some k) p q mode late made at =
     no_earlier_at m Barrier p q u mode time (λ at h. if_free m.lockstep (time ≤ at) h) late (bars_enter p q u k at) made.entry made.made

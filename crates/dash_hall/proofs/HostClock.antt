@@ -21,7 +21,7 @@ use Rattle.run_model.specs.Moments.{Mode, IfFree, IsMoment, has_moment, IsOfCloc
 use Rattle.handler_post.specs.declared.way.Sent.{Sent}
 use Rattle.handler_post.specs.declared.way.Sent.TheVariants.{Accepted as Took, Refused as Turned, NoMemory as NoRoom}
 use Rattle.dash_hall.specs.Growth.{own, GoesOn, Makes, BarsOf}
-use Rattle.dash_hall.specs.Requests.{IfSent}
+use Rattle.dash_hall.specs.QueueCalls.{IfSent}
 use Rattle.dash_hall.specs.ByClock.{is_by, IsInMode, AddsByClock, AddsAt}
 use Rattle.dash_hall.specs.Hosts.{HostOrigin, IsHost}
 use Rattle.dash_hall.proofs.Clocking.{where_true, clock_more, clock_others, clock_quiet, EntersAt, bars_enter, its_moment, of_either, made_moment}

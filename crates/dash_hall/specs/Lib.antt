@@ -1,6 +1,6 @@
 pub mod Slots
 pub mod Growth
-pub mod Requests
+pub mod QueueCalls
 pub mod Kits
 pub mod Dealing
 pub mod Uptimes

@@ -14,10 +14,10 @@ mod timer;
 mod uptime;
 
 pub use barriers::quit;
-pub use calls::{QueueCall, perform_by};
+pub use calls::{QueueCall, perform, send};
 pub use hall::{Hall, holder, open};
 pub use handler_post::recycle_all;
-pub use handlers::{Request, frame_handler, gauge_handler, handler_of, looper_of, make};
+pub use handlers::{frame_handler, gauge_handler, handler_of, looper_of, message_of};
 pub use host::Host;
 pub use kit::Kit;
 pub use stop::{Look, Stop};

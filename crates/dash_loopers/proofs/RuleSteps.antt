@@ -11,22 +11,18 @@ use Rattle.std.proofs.lemmas.List.{append-nil, get_or-set_same, get_or-set_other
 use Rattle.std.proofs.lemmas.Option.{slice_get-get_or, slice_get_within, get_or_from_slice_get}
 use Rattle.loop_model.specs.declared.post.Post.{Post as PostData}
 use Rattle.loop_model.specs.declared.call.Call.{Call}
+use Rattle.loop_model.specs.declared.call.Call.TheVariants.{Post}
 use Rattle.loop_model.specs.declared.entry.Entry.{Entry}
-use Rattle.loop_model.specs.Entries.{is_next}
 use Rattle.dash_script.specs.declared.script.Rule.{Rule}
 use Rattle.dash_script.specs.declared.script.Script.{Script}
 use Rattle.looper_run.specs.Holding.{Sender}
-use Rattle.handler_post.specs.declared.handler.Handler.{Handler}
-use Rattle.run_model.specs.Planned.{Makes as Asks, AreFor, plain, looper_of, handler_line}
+use Rattle.run_model.specs.Planned.{Makes as Asks, AreFor, plain, looper_of, sent_by}
 use Rattle.run_model.specs.AskedSoFar.{tokens_in}
 use Rattle.run_model.specs.Control.{Timing, At}
 use Rattle.loop_model.specs.Posts.{moment_after}
 use Rattle.run_model.specs.Loopers.{Looper, Sent, fires, reaction, reacted, IsSent}
 use Rattle.run_model.specs.Parts.{sent_on}
 use Rattle.run_model.proofs.RunLaws.{AreFor-snoc}
-use Rattle.dash_hall.specs.declared.handlers.Request.{Request}
-use Rattle.dash_hall.specs.declared.handlers.Request.TheVariants as request
-use Rattle.dash_hall.specs.Requests.{call_by}
 use Rattle.dash_hall.specs.Growth.{own, Makes}
 use Rattle.dash_loopers.specs.declared.view_root.ViewRoot.{ViewRoot}
 use Rattle.dash_loopers.specs.declared.player.Parts.{Parts}
@@ -35,17 +31,6 @@ use Rattle.dash_loopers.specs.Played.{calls_of, IsRootOf, IsShown, AreMadeElsewh
 use Rattle.dash_loopers.proofs.LooperLists.{at_seam}
 use Rattle.dash_loopers.proofs.LooperSeats.{places_apart}
 use Rattle.dash_loopers.proofs.MoreCalls.{sent_here, sent_else, without_self, played_call}
-
--- ---- a call that a handler makes is no look
-
-no_look_by : (h : Handler) (r : Request) → is_next (call_by h r) ≡ false
-no_look_by h (request.Send what arg obj when) = refl
-no_look_by h (request.SendAsync what when) = refl
-no_look_by h (request.SendFront what) = refl
-no_look_by h (request.PostCallback id now delay) = refl
-no_look_by h (request.RemoveMessages what) = refl
-no_look_by h (request.RemoveCallbacks id) = refl
-no_look_by h request.RemoveAll = refl
 
 -- ---- one call more
 
@@ -68,9 +53,9 @@ pub root_sent : (s : Script) (q : ℕ) (tokens : List ℕ) (a : Looper) (xs : Li
 root_sent s q tokens a xs root h = record { edition = h.edition; gauges = h.gauges; lines = h.lines; barrier = h.barrier; barriers = h.barriers; painted = h.painted }
 
 -- a call on the own queue
-pub called_here : (s : Script) (q : ℕ) (h : Handler) (r : Request) (timing : Timing) (p p' : Sender) (parts : Parts) → Makes p p' (call_by h r) []
-    → Plays s q (with_call q (call_by h r) timing) (calls_of p) parts (calls_of p') parts
-called_here s q h r timing p p' parts m text a is = played_call s q (call_by h r) timing p p' parts (no_look_by h r) m a is
+pub called_here : (s : Script) (q : ℕ) (post : PostData) (timing : Timing) (p p' : Sender) (parts : Parts) → Makes p p' (plain (Post post)) []
+    → Plays s q (with_call q (plain (Post post)) timing) (calls_of p) parts (calls_of p') parts
+called_here s q post timing p p' parts m text a is = played_call s q (plain (Post post)) timing p p' parts refl m a is
 
 -- which queue stands at which place
 same_place : (q k k' j j' : ℕ) → PlaceWithout q k j → PlaceWithout q k' j' → k ≡ k' → j' ≡ j
@@ -80,11 +65,11 @@ same_place q k k' j j' (inr p) (inl p') is = (let a : q < k = p.0 in let b : k' 
 same_place q k k' j j' (inr p) (inr p') is = (let a : k ≡ j + 1 = p.1 in let b : k' ≡ j' + 1 = p'.1 in omega (arith, is))
 
 -- a call on another queue, by its poster at place j among the others
-module _ (s : Script) (q k j : ℕ) (h : Handler) (r : Request) (timing : Timing) (p p' : Sender) (made : List Entry) (parts parts' : Parts) (place : PlaceWithout q k j) (at : slice_get parts.others.items j ≡ Some p) (m : Makes p p' (call_by h r) [])
+module _ (s : Script) (q k j : ℕ) (post : PostData) (timing : Timing) (p p' : Sender) (made : List Entry) (parts parts' : Parts) (place : PlaceWithout q k j) (at : slice_get parts.others.items j ≡ Some p) (m : Makes p p' (plain (Post post)) [])
     (others : parts'.others.items ≡ set parts.others.items j p') (root : parts'.root ≡ parts.root) (fired : parts'.fired.items ≡ parts.fired.items) (a : Looper) (is : IsPlayed s q made parts a) where
   -- what is sent with this call more
   sent_more : List Sent
-  sent_more = a.sent ++ record { queue = k; ask = Asks (call_by h r); reply = None; timing = timing } ∷ []
+  sent_more = a.sent ++ record { queue = k; ask = Asks (plain (Post post)); reply = None; timing = timing } ∷ []
 
   entries_there : (k' j' : ℕ) (d : Sender) → PlaceWithout q k' j' → j' < length parts.others.items → AreFor IsSent [] (sent_on k' sent_more) (own (slice_index_or (set parts.others.items j p') j' d))
   unfolding sent_more
@@ -94,21 +79,21 @@ module _ (s : Script) (q k j : ℕ) (h : Handler) (r : Request) (timing : Timing
       let hit : k ≡ k' → AreFor IsSent [] (sent_on k' sent_more) (own (slice_index_or (set items j p') j' d)) = λ same.
       (let here : get_or (set items j p') j' d ≡ p' = ap (λ (i : ℕ). get_or (set items j p') i d) (same_place q k k' j j' place place' same) ∙ get_or-set_same items j p' d near_j in
       let before : AreFor IsSent [] (sent_on k a.sent) (own p) = subst (λ (z : Sender). AreFor IsSent [] (sent_on k a.sent) (own z)) (get_or_from_slice_get items j p d at) (is.elsewhere k j d place near_j) in
-      let after : AreFor IsSent [] (sent_on k sent_more) (own p') = subst (λ (l : List Entry). AreFor IsSent [] (sent_on k sent_more) l) (sym m.made) (one_for k a.sent (call_by h r) timing (own p) m.entry m.makes before) in
+      let after : AreFor IsSent [] (sent_on k sent_more) (own p') = subst (λ (l : List Entry). AreFor IsSent [] (sent_on k sent_more) l) (sym m.made) (one_for k a.sent (plain (Post post)) timing (own p) m.entry m.makes before) in
       subst (λ (n : ℕ). AreFor IsSent [] (sent_on n sent_more) (own (get_or (set items j p') j' d))) same (subst (λ (z : Sender). AreFor IsSent [] (sent_on k sent_more) (own z)) (sym here) after)) in
       let miss : k ≢ k' → AreFor IsSent [] (sent_on k' sent_more) (own (slice_index_or (set items j p') j' d)) = λ apart.
       (let there : get_or (set items j p') j' d ≡ get_or items j' d = get_or-set_other items j j' p' d (λ e. places_apart q k k' j j' place place' apart (sym e)) in
-      subst (λ (z : Sender). AreFor IsSent [] (sent_on k' sent_more) (own z)) (sym there) (none_for k' k a.sent (call_by h r) timing (own (get_or items j' d)) apart (is.elsewhere k' j' d place' near))) in
+      subst (λ (z : Sender). AreFor IsSent [] (sent_on k' sent_more) (own z)) (sym there) (none_for k' k a.sent (plain (Post post)) timing (own (get_or items j' d)) apart (is.elsewhere k' j' d place' near))) in
       dite (ℕ_discrete k k') hit miss
 
-  pub called_there : IsPlayed s q made parts' (with_call k (call_by h r) timing a)
+  pub called_there : IsPlayed s q made parts' (with_call k (plain (Post post)) timing a)
   unfolding sent_more
   called_there =
       let items = parts.others.items in
       let as_many : length parts'.others.items ≡ length items = ap length others ∙ length-set items j p' in
       record {
-        shown = subst (λ (v : ViewRoot). IsShown s q made v (with_call k (call_by h r) timing a)) (sym root) (record {
-          calls = none_for q k a.sent (call_by h r) timing made (λ e. without_self q k j place (sym e)) is.shown.calls;
+        shown = subst (λ (v : ViewRoot). IsShown s q made v (with_call k (plain (Post post)) timing a)) (sym root) (record {
+          calls = none_for q k a.sent (plain (Post post)) timing made (λ e. without_self q k j place (sym e)) is.shown.calls;
           asked = is.shown.asked;
           turns = is.shown.turns;
           stands = root_sent s q (tokens_in made) a sent_more parts.root is.shown.stands;
@@ -229,10 +214,11 @@ module _ (s : Script) (now : ℕ) (m : PostData) (a : Looper) where
 
 -- ---- what the functions' clauses are put together from
 
--- the rule's own message, as the request that it makes
-pub request_is : (s : Script) (now : ℕ) (r : Rule) (looper : ℕ) (handler : Handler) (when : ℕ) (a : Looper) → looper ≡ looper_of s r.to_handler → handler ≡ record { id = r.to_handler; asynchronous = (handler_line s r.to_handler).asynchronous } → when ≡ moment_after now r.delay
-    → with_call looper (call_by handler (request.Send r.to_what 0 None when)) (At now) a ≡ record a { sent = a.sent ++ reaction s now r ∷ [] }
-request_is s now r looper handler when a is_looper is_handler is_when = λ i. with_call (is_looper i) (call_by (is_handler i) (request.Send r.to_what 0 None (is_when i))) (At now) a
+-- the rule's own message is one call more
+message_is : (s : Script) (now : ℕ) (r : Rule) (looper when : ℕ) (post : PostData) (a : Looper) → looper ≡ looper_of s r.to_handler → post ≡ sent_by s r.to_handler r.to_what when → when ≡ moment_after now r.delay
+    → with_call looper (plain (Post post)) (At now) a ≡ record a { sent = a.sent ++ reaction s now r ∷ [] }
+message_is s now r looper when post a is_looper is_post is_when =
+    λ i. with_call (is_looper i) (plain (Post ((is_post ∙ ap (sent_by s r.to_handler r.to_what) is_when) i))) (At now) a
 
 -- a step of the same state in other words
 pub played_as : (s : Script) (q : ℕ) (made : List Entry) (parts : Parts) (a b : Looper) → a ≡ b → IsPlayed s q made parts a → IsPlayed s q made parts b
@@ -272,11 +258,11 @@ pub plays_other : (s : Script) (q now : ℕ) (m : PostData) (place : ℕ) (r : R
 plays_other s q now m place r made parts other text a is =
     played_as s q made parts _ _ (sym (rule_missed s now m place r a (λ n at. fires_not m r n (inl other)))) is
 
--- the request of a rule is its message
-pub plays_sent : (s : Script) (q now : ℕ) (r : Rule) (looper : ℕ) (handler : Handler) (when : ℕ) (made made' : List Entry) (parts parts' : Parts) → looper ≡ looper_of s r.to_handler → handler ≡ record { id = r.to_handler; asynchronous = (handler_line s r.to_handler).asynchronous } → when ≡ moment_after now r.delay
-    → Plays s q (with_call looper (call_by handler (request.Send r.to_what 0 None when)) (At now)) made parts made' parts' → Plays s q (λ a. record a { sent = a.sent ++ reaction s now r ∷ [] }) made parts made' parts'
-plays_sent s q now r looper handler when made made' parts parts' is_looper is_handler is_when plays text a is =
-    played_as s q made' parts' _ _ (request_is s now r looper handler when a is_looper is_handler is_when) (plays text a is)
+-- the message of a rule was sent
+pub plays_sent : (s : Script) (q now : ℕ) (r : Rule) (looper when : ℕ) (post : PostData) (made made' : List Entry) (parts parts' : Parts) → looper ≡ looper_of s r.to_handler → post ≡ sent_by s r.to_handler r.to_what when → when ≡ moment_after now r.delay
+    → Plays s q (with_call looper (plain (Post post)) (At now)) made parts made' parts' → Plays s q (λ a. record a { sent = a.sent ++ reaction s now r ∷ [] }) made parts made' parts'
+plays_sent s q now r looper when post made made' parts parts' is_looper is_post is_when plays text a is =
+    played_as s q made' parts' _ _ (message_is s now r looper when post a is_looper is_post is_when) (plays text a is)
 
 -- the rule at a place of the same list
 pub rule_at : (xs ys : List Rule) (place : ℕ) (d : Rule) → ys ≡ xs → place < length ys → slice_get xs place ≡ Some (get_or ys place d)

@@ -7,7 +7,8 @@ ghost use Rattle.dash_loopers.specs.Players.{AreSameParts};
 ghost use Rattle.dash_hall.specs.Growth.{Makes};
 ghost use Rattle.dash_loopers.specs.declared.player.Parts.{Parts as PartsData};
 ghost use Rattle.dash_script.specs.Reading.{HasText};
-ghost use Rattle.dash_hall.specs.Requests.{call_by};
+ghost use Rattle.loop_model.specs.declared.call.Call.TheVariants.{Post as Posts};
+ghost use Rattle.run_model.specs.Planned.{plain};
 ghost use Rattle.dash_loopers.specs.Played.{FiresAt, rule_met, with_call};
 ghost use Rattle.run_model.specs.Control.{Timing};
 ghost use Rattle.run_model.specs.Loopers.{reacted, reaction};
@@ -16,9 +17,9 @@ ghost use Rattle.dash_loopers.specs.Steps.{IsAtPlace, LeavesOwn, OnlyCalls};
 
 use crate::hearing::place_without;
 use crate::player::{Parts, Place};
-use dash_hall::{Request, handler_of, looper_of, make};
+use dash_hall::{looper_of, message_of, send};
 use dash_script::Rule;
-use handler_post::{Handler, Way};
+use handler_post::Way;
 use loop_model::{NoMemory, Post};
 use looper_run::Own;
 use message_pool::PoolClaim;
@@ -77,26 +78,21 @@ impl<'a, R: Wait> Place<'a, R> {
             (λ a. record a { sent = a.sent ++ reaction self.now.script.now now rule.now ∷ [] }) own.old own.new parts.old parts.new) }
     {
         let looper = looper_of(self.script, rule.to_handler);
-        let handler = handler_of(self.script, rule.to_handler);
-        let request = Request::Send {
-            what: rule.to_what,
-            arg: 0,
-            obj: None,
-            when: now.saturating_add(rule.delay),
-        };
+        let when = now.saturating_add(rule.delay);
+        let post = message_of(self.script, rule.to_handler, rule.to_what, when);
         if looper == self.looper {
-            return self.send_own(own, handler, request);
+            return self.send_own(own, &post);
         }
-        self.send_other(parts, own, looper, handler, request)
+        self.send_other(parts, own, looper, &post)
     }
 
     /// A message to the looper itself.
-    fn send_own(&self, own: &mut Own, handler: Handler, request: Request) -> Result<(), NoMemory>
+    fn send_own(&self, own: &mut Own, post: &Post) -> Result<(), NoMemory>
         requires at { IsAtPlace self.now.script.now self.now.hall.now self.now.looper (workplace (held own.old)) }
         ensures leaves { LeavesOwn own.old own.new }
         ensures untimed { AddsUntimed own.old.poster.now own.new.poster.now }
         ensures plays { (parts : PartsData) (timing : Timing)
-            → OnOk result (PlaysOn self.now (with_call self.now.looper (call_by handler request) timing) own.old own.new parts parts) }
+            → OnOk result (PlaysOn self.now (with_call self.now.looper (plain (Posts post.now)) timing) own.old own.new parts parts) }
         ensures acts { own.new.journal.now.acts ≡ own.old.journal.now.acts }
     {
         let mut way = Way {
@@ -105,7 +101,7 @@ impl<'a, R: Wait> Place<'a, R> {
             pool: &self.hall.pool,
             pass: own.pass,
         };
-        make(self.rt, self.alloc, &mut way, handler, request)
+        send(self.rt, self.alloc, &mut way, post)
     }
 
     /// A message to another looper, where there is one of that number.
@@ -114,8 +110,7 @@ impl<'a, R: Wait> Place<'a, R> {
         parts: &mut Parts,
         own: &mut Own,
         looper: u32,
-        handler: Handler,
-        request: Request,
+        post: &Post,
     ) -> Result<(), NoMemory>
         requires within { HasText self.now.script.now → looper < self.now.script.now.loopers }
         requires other { looper ≡ self.now.looper → ⊥ }
@@ -123,7 +118,7 @@ impl<'a, R: Wait> Place<'a, R> {
         ensures calls { OnlyCalls parts.old parts.new own.old own.new }
         ensures seen { own.new.poster.now ≡ own.old.poster.now }
         ensures plays { (timing : Timing)
-            → OnOk result (PlaysOn self.now (with_call looper (call_by handler request) timing) own.old own.new parts.old parts.new) }
+            → OnOk result (PlaysOn self.now (with_call looper (plain (Posts post.now)) timing) own.old own.new parts.old parts.new) }
     {
         let place = looper as usize;
         if place >= self.hall.queues.len() {
@@ -131,7 +126,7 @@ impl<'a, R: Wait> Place<'a, R> {
         }
         let queue = &self.hall.queues[place];
         let poster = &mut parts.others[place_without(self.looper as usize, place)];
-        self.send_by(poster, own, queue, handler, request)
+        self.send_by(poster, own, queue, post)
     }
 
     /// A message by a poster of another looper's queue.
@@ -140,14 +135,13 @@ impl<'a, R: Wait> Place<'a, R> {
         poster: &mut Poster<PoolClaim>,
         own: &mut Own,
         queue: &SharedQueue<PoolClaim>,
-        handler: Handler,
-        request: Request,
+        post: &Post,
     ) -> Result<(), NoMemory>
         requires at { IsAt queue.now self.now.hall.now.pool (record (held own.old) { poster = poster.old }) }
         ensures poster { badge_of poster.new ≡ badge_of poster.old }
         ensures leaves { LeavesOwn own.old own.new }
         ensures untimed { AddsUntimed poster.old poster.new }
-        ensures made { OnOk result (Makes poster.old poster.new (call_by handler request) []) }
+        ensures made { OnOk result (Makes poster.old poster.new (plain (Posts post.now)) []) }
         ensures acts { own.new.journal.now.acts ≡ own.old.journal.now.acts }
         ensures seen { own.new.poster.now ≡ own.old.poster.now }
     {
@@ -157,7 +151,7 @@ impl<'a, R: Wait> Place<'a, R> {
             pool: &self.hall.pool,
             pass: own.pass,
         };
-        make(self.rt, self.alloc, &mut way, handler, request)
+        send(self.rt, self.alloc, &mut way, post)
     }
 }
 

@@ -1,7 +1,6 @@
 pub mod Controllers
 pub mod GivingUp
 pub mod AtBlocks
-pub mod Outcomes
 pub mod Records
 pub mod Runs
 pub mod Stages

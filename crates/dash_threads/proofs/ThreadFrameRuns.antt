@@ -17,14 +17,13 @@ use Rattle.run_model.specs.AskedSoFar.{tokens_in, lines_ask}
 use Rattle.run_model.specs.Moments.{Mode, IsUptime, IsMoment}
 use Rattle.run_model.specs.FrameRecords.{FrameAsk, Posts, Removes, as_told, line_asks}
 use Rattle.dash_threads.specs.declared.labels.Labelled.{Labelled}
-use Rattle.dash_hall.specs.declared.handlers.Request.TheVariants as request
 use Rattle.dash_hall.specs.declared.calls.QueueCall.TheVariants as on_queue
 use Rattle.dash_threads.specs.declared.planned.PlannedCall.{PlannedCall}
 use mathlib.Core.List.{IsPrefix}
 use Rattle.dash_hall.specs.Growth.{own, Makes}
 use Rattle.dash_hall.specs.ByClock.{IsByClock}
 use Rattle.dash_hall.proofs.Clocking.{clocked_same}
-use Rattle.dash_hall.specs.Requests.{call_made}
+use Rattle.dash_hall.specs.QueueCalls.{call_made}
 use Rattle.dash_hall.specs.Hosts.{asks_of, AsksFor, PostsFrame}
 use Rattle.dash_threads.specs.Threads.{HasCalled, AreByClock, HasAsked, HasTurned, KeepsBarriers, Progress, CallsAt}
 use Rattle.dash_threads.proofs.ThreadText.{line_passes}
@@ -44,7 +43,7 @@ at_place P xs i k x y d is near here there false other =
 
 -- the call that a frame line plans, where it is for later
 abbrev due_call : ℕ → ℕ → ℕ → ℕ → PlannedCall
-due_call u lo phase delay = record { looper = lo; call = on_queue.ByHandler (record { id = 64 + lo; asynchronous = true }) (request.Send 2 phase None (frame_due u delay)) }
+due_call u lo phase delay = record { looper = lo; call = on_queue.Send (frame_message lo 2 phase (frame_due u delay)) }
 
 -- in free mode the due time of what a line asks for is left open
 told_due : (m : Mode) (time u phase id delay : ℕ) → IsUptime m time u → as_told m.lockstep (Posts phase (frame_due u delay) id None) ≡ as_told m.lockstep (Posts phase (frame_due time delay) id None)

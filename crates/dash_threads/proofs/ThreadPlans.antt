@@ -9,7 +9,7 @@ use Rattle.dash_script.specs.declared.script.Script.{Script}
 use Rattle.run_model.specs.Planned.{looper_of, gauge_handler, Makes, call_of, planned}
 use Rattle.dash_threads.specs.declared.labels.Labelled.{Labelled}
 use Rattle.dash_threads.specs.declared.planned.PlannedCall.{PlannedCall}
-use Rattle.dash_hall.specs.Requests.{call_made}
+use Rattle.dash_hall.specs.QueueCalls.{call_made}
 use Rattle.dash_threads.specs.Planning.{call_planned}
 
 -- the call, where it is to be made on this queue

@@ -25,7 +25,7 @@ use Rattle.dash_hall.specs.declared.calls.QueueCall.TheVariants as on_queue
 use Rattle.dash_threads.specs.declared.thread.PostingThread.{PostingThread}
 use Rattle.dash_hall.specs.Growth.{own}
 use Rattle.dash_hall.specs.ByClock.{IsByClock, IsInMode}
-use Rattle.dash_hall.specs.Requests.{call_made, tokens_of, posts_barrier}
+use Rattle.dash_hall.specs.QueueCalls.{call_made, tokens_of, posts_barrier}
 use Rattle.dash_hall.proofs.Clocking.{IfTimed, clocked_call, no_earlier_call}
 use Rattle.dash_threads.specs.Planning.{removal_of}
 use Rattle.dash_threads.specs.Threads.{HasCalled, AreByClock, HasAsked, HasTurned, labels_kept, tokens_kept, KeepsBarriers, IsUpTo, Takes, TakesAt, Performs, CallsAt, with_barrier, Called, CalledIf, MakesPlanned}

@@ -22,7 +22,7 @@ use Rattle.dash_threads.specs.declared.planned.PlannedCall.{PlannedCall}
 use Rattle.dash_hall.specs.Growth.{own, Makes}
 use Rattle.dash_hall.specs.Hosts.{asks_of}
 use Rattle.dash_hall.specs.ByClock.{IsByClock}
-use Rattle.dash_hall.specs.Requests.{call_made, tokens_of, posts_barrier, IsAtItsMoment}
+use Rattle.dash_hall.specs.QueueCalls.{call_made, tokens_of, posts_barrier, IsAtItsMoment}
 use Rattle.dash_hall.specs.declared.calls.QueueCall.{QueueCall}
 use Rattle.dash_threads.specs.Planning.{call_planned}
 use Rattle.frame_phases.specs.declared.entry.FrameEntry.{FrameEntry}

@@ -1,10 +1,11 @@
 //! The call that a command plans on a queue.
 ghost use Rattle.std.specs.Prelude.{◌≡◌};
-ghost use Rattle.dash_threads.specs.Planning.{call_planned, request_planned, request_to};
+ghost use Rattle.dash_threads.specs.Planning.{call_planned, planned_by_handler, sending_of, removal_from};
 
 use crate::labels::{Labelled, find};
-use dash_hall::{QueueCall, Request, gauge_handler, handler_of, looper_of};
+use dash_hall::{QueueCall, gauge_handler, looper_of, message_of};
 use dash_script::{Command, Script};
+use loop_model::{Filter, Kind, Post};
 
 /// A call, and the looper on whose queue it is to be made.
 #[derive(Clone, Copy, Debug, PartialEq, Eq)]
@@ -49,81 +50,79 @@ pub(crate) fn call_for(
     }
 }
 
-/// The call of a command that sends or removes messages by a handler.
+/// The call of a command that sends or removes messages of a handler.
 fn call_by_handler(script: &Script, now: u64, command: Command) -> Option<PlannedCall>
-    ensures { result ≡ request_planned script.now now command }
+    ensures { result ≡ planned_by_handler script.now now command }
 {
     match command {
         Command::Post {
             handler,
             what,
             delay,
-        } => Some(requested(
+        } => Some(sending(
             script,
-            handler,
-            Request::Send {
-                what,
-                arg: 0,
-                obj: None,
-                when: now.saturating_add(delay),
-            },
+            message_of(script, handler, what, now.saturating_add(delay)),
         )),
         Command::PostAsync {
             handler,
             what,
             delay,
-        } => Some(requested(
+        } => Some(sending(
             script,
-            handler,
-            Request::SendAsync {
-                what,
-                when: now.saturating_add(delay),
+            Post {
+                asynchronous: true,
+                ..message_of(script, handler, what, now.saturating_add(delay))
             },
         )),
         Command::Front { handler, what } => {
-            Some(requested(script, handler, Request::SendFront { what }))
+            Some(sending(script, message_of(script, handler, what, 0)))
         }
-        Command::Callback { handler, id, delay } => Some(requested(
+        Command::Callback { handler, id, delay } => Some(sending(
             script,
-            handler,
-            Request::PostCallback {
-                id: u64::from(id),
-                now,
-                delay,
+            Post {
+                callback: Some(u64::from(id)),
+                ..message_of(script, handler, 0, now.saturating_add(delay))
             },
         )),
-        Command::Set { gauge, value } => Some(requested(
+        Command::Set { gauge, value } => Some(sending(
             script,
-            gauge_handler(script, gauge),
-            Request::Send {
-                what: 1,
+            Post {
                 arg: value,
                 obj: Some(u64::from(gauge)),
-                when: now,
+                ..message_of(script, gauge_handler(script, gauge), 1, now)
             },
         )),
-        Command::Remove { handler, what } => {
-            Some(requested(script, handler, Request::RemoveMessages { what }))
+        Command::Remove { handler, what } => Some(removal(script, handler, Kind::What(what))),
+        Command::RemoveCallback { handler, id } => {
+            Some(removal(script, handler, Kind::Callback(u64::from(id))))
         }
-        Command::RemoveCallback { handler, id } => Some(requested(
-            script,
-            handler,
-            Request::RemoveCallbacks { id: u64::from(id) },
-        )),
-        Command::RemoveAll { handler } => Some(requested(script, handler, Request::RemoveAll)),
+        Command::RemoveAll { handler } => Some(removal(script, handler, Kind::All)),
         _ => None,
     }
 }
 
-/// A request to a declared handler, on its looper.
-fn requested(script: &Script, handler: u32, request: Request) -> PlannedCall
-    ensures { result ≡ request_to script.now handler request }
+/// The sending of a message, on the queue of its handler's looper.
+fn sending(script: &Script, post: Post) -> PlannedCall
+    ensures { result ≡ sending_of script.now post }
+{
+    PlannedCall {
+        looper: looper_of(script, post.handler),
+        call: QueueCall::Send { post },
+    }
+}
+
+/// The removal of such messages of a declared handler, on the queue of its looper.
+fn removal(script: &Script, handler: u32, kind: Kind) -> PlannedCall
+    ensures { result ≡ removal_from script.now handler kind }
 {
     PlannedCall {
         looper: looper_of(script, handler),
-        call: QueueCall::ByHandler {
-            handler: handler_of(script, handler),
-            request,
+        call: QueueCall::Remove {
+            filter: Filter {
+                handler,
+                kind,
+                obj: None,
+            },
         },
     }
 }

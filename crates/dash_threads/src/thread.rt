@@ -8,14 +8,14 @@ ghost use Rattle.dash_hall.specs.Growth.{GoesOn, MayCall};
 ghost use Rattle.run_model.specs.Parts.{lines_in};
 ghost use Rattle.dash_hall.specs.Kits.{IsUnusedKit, frame_badge_of};
 ghost use Rattle.dash_hall.specs.Hosts.{PostsFrame};
-ghost use Rattle.dash_hall.specs.Requests.{posts_barrier};
+ghost use Rattle.dash_hall.specs.QueueCalls.{posts_barrier};
 ghost use Rattle.dash_threads.specs.AtWork.{IsAtWork, StaysAtWork, WorksOn, RunsUnlessGivenUp, RunsLines, DoesWork};
 ghost use Rattle.dash_threads.specs.Threads.{CallsAt, with_barrier, MakesPlanned, Takes, TakesAt, TakesAtAny, Continues, HasBegun, one_pass_more, rungs_of, one_more};
 
 use crate::labels::Labelled;
 use crate::planned::call_for;
 use choreographer::{Choreographer, FramePass};
-use dash_hall::{Hall, Host, Kit, Look, QueueCall, Still, frame_handler, perform_by};
+use dash_hall::{Hall, Host, Kit, Look, QueueCall, Still, frame_handler, perform};
 use dash_script::{Block, Command, Script, phase_count};
 use handler_post::Handler;
 use loop_io::Gate;
@@ -267,7 +267,7 @@ impl PostingThread {
     {
         let place = looper as usize;
         if place < self.kit.posters.len() && place < hall.queues.len() {
-            return perform_by(
+            return perform(
                 rt,
                 alloc,
                 &hall.queues[place],

@@ -10,7 +10,7 @@ use Rattle.dash_loopers.proofs.LooperPlaces.{parts_self}
 
 pub returns-then-looper-self-clause-plays : goal.returns-then-looper-self-clause-plays
 returns-then-looper-self-clause-plays g c =
-    on_ok c.send_own.result _ _ (c.send_own.ensures.plays c.args.parts.now (At c.args.now)) (λ plays. plays_sent c.args.self.now.script.now c.args.self.now.looper c.args.now c.args.rule.now c.args.self.now.looper c.handler_of-handler.result c.saturating_add.result _ _ _ _ (sym c.if-looper-self.true ∙ c.looper_of-looper.ensures) c.handler_of-handler.ensures c.saturating_add.ensures plays)
+    on_ok c.send_own.result _ _ (c.send_own.ensures.plays c.args.parts.now (At c.args.now)) (λ plays. plays_sent c.args.self.now.script.now c.args.self.now.looper c.args.now c.args.rule.now c.args.self.now.looper c.saturating_add-when.result c.message_of-post.result _ _ _ _ (sym c.if-looper-self.true ∙ c.looper_of-looper.ensures) c.message_of-post.ensures c.saturating_add-when.ensures plays)
 
 pub send_other-requires-clause-within : goal.send_other-requires-clause-within
 send_other-requires-clause-within g c = λ text.
@@ -18,7 +18,7 @@ send_other-requires-clause-within g c = λ text.
 
 pub returns-clause-plays : goal.returns-clause-plays
 returns-clause-plays g c =
-    on_ok c.send_other.result _ _ (c.send_other.ensures.plays (At c.args.now)) (λ plays. plays_sent c.args.self.now.script.now c.args.self.now.looper c.args.now c.args.rule.now c.looper_of-looper.result c.handler_of-handler.result c.saturating_add.result _ _ _ _ c.looper_of-looper.ensures c.handler_of-handler.ensures c.saturating_add.ensures plays)
+    on_ok c.send_other.result _ _ (c.send_other.ensures.plays (At c.args.now)) (λ plays. plays_sent c.args.self.now.script.now c.args.self.now.looper c.args.now c.args.rule.now c.looper_of-looper.result c.saturating_add-when.result c.message_of-post.result _ _ _ _ c.looper_of-looper.ensures c.message_of-post.ensures c.saturating_add-when.ensures plays)
 
 pub returns-then-looper-self-clause-calls : goal.returns-then-looper-self-clause-calls
 returns-then-looper-self-clause-calls g c =

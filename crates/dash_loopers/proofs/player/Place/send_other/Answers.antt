@@ -71,5 +71,5 @@ returns-clause-plays g c = λ timing.
     let near : c.args.looper < length hall.queues.items = omega (arith, hall.queues.ok.0) in
     let at = other_read place.script.now hall place.looper c.args.looper c.place_without.result parts c.requires.serves.looper c.requires.serves.are_parts near c.place_without.ensures parts.others.len c.index_mut-poster.result.now (omega (arith, parts.others.ok.0)) c.index_mut-poster.ensures.value in
     on_ok c.send_by.result _ _ c.send_by.ensures.made (λ m text a is.
-    called_there place.script.now place.looper c.args.looper c.place_without.result c.args.handler c.args.request timing c.index_mut-poster.result.now c.send_by.new.poster _ c.args.parts.now _ c.place_without.ensures at
+    called_there place.script.now place.looper c.args.looper c.place_without.result c.args.post.now timing c.index_mut-poster.result.now c.send_by.new.poster _ c.args.parts.now _ c.place_without.ensures at
     m refl refl refl a (subst (λ (p : Sender). IsPlayed place.script.now place.looper (calls_of p) c.args.parts.now a) (sym c.send_by.ensures.seen) is))

@@ -3,7 +3,7 @@ use Rattle.std.proofs.Math.Seq.{map-set_same}
 use Rattle.std.proofs.lemmas.Result.{IfOk-weaker}
 use Rattle.looper_run.specs.Holding.{Sender}
 use Rattle.dash_hall.specs.Growth.{Makes}
-use Rattle.dash_hall.specs.Requests.{call_made, tokens_of, posts_barrier, IsAtItsMoment}
+use Rattle.dash_hall.specs.QueueCalls.{call_made, tokens_of, posts_barrier, IsAtItsMoment}
 use Rattle.std.specs.Prelude.{is_some}
 use Rattle.dash_threads.specs.Threads.{CallsAt}
 use Rattle.dash_threads.proofs.ThreadSteps.{both_ok, calls_at_set, calls_nowhere}
@@ -13,8 +13,8 @@ use Rattle.dash_threads.proofs.ThreadPlaces.{its_poster, its_home}
 use Rattle.dash_threads.proofs.thread.PostingThread.call.Goals as goal
 use Rattle.dash_threads.proofs.thread.PostingThread.call.Goals.{else-place-len-via-then-place-len+else-place-len-2, else-place-len-via-else-place-len}
 
-pub perform_by-requires : goal.perform_by-requires
-perform_by-requires g c =
+pub perform-requires : goal.perform-requires
+perform-requires g c =
     let t = c.args.self.now in
     let hall = c.args.hall.now in
     let near : c.args.looper < length t.kit.posters.items = omega (arith, c.len.ensures, c.if-place-len.true) in
@@ -31,30 +31,30 @@ returns-then-place-len-2-clause-works g c =
     record {
       thread = record {
         number = c.requires.at_work.thread.number;
-        posters = posters_kept t.number c.args.hall.now.queues.items t.kit.posters.items c.requires.at_work.thread.posters c.args.looper c.perform_by.new.poster c.index_mut.result.now (gone_badge _ _ _ _ c.perform_by.ensures.called.on ∙ ap badge_of c.index_mut.ensures.value);
+        posters = posters_kept t.number c.args.hall.now.queues.items t.kit.posters.items c.requires.at_work.thread.posters c.args.looper c.perform.new.poster c.index_mut.result.now (gone_badge _ _ _ _ c.perform.ensures.called.on ∙ ap badge_of c.index_mut.ensures.value);
         frames = c.requires.at_work.thread.frames;
-        pass = c.perform_by.ensures.called.on.home ∙ c.requires.at_work.thread.pass;
+        pass = c.perform.ensures.called.on.home ∙ c.requires.at_work.thread.pass;
       };
       number = refl;
       passed = refl;
       goes = refl;
-      bells = map-set_same (λ (z : Sender). z.view.rung) t.kit.posters.items c.args.looper c.perform_by.new.poster c.index_mut.result.now
-          (c.perform_by.ensures.called.on.rung ∙ ap (λ (z : Sender). z.view.rung) c.index_mut.ensures.value);
+      bells = map-set_same (λ (z : Sender). z.view.rung) t.kit.posters.items c.args.looper c.perform.new.poster c.index_mut.result.now
+          (c.perform.ensures.called.on.rung ∙ ap (λ (z : Sender). z.view.rung) c.index_mut.ensures.value);
     }
 
 pub returns-then-place-len-2-clause-made : goal.returns-then-place-len-2-clause-made
 returns-then-place-len-2-clause-made g c =
     let posters = c.args.self.now.kit.posters.items in
     let p = c.index_mut.result.now in
-    let q = c.perform_by.new.poster in
+    let q = c.perform.new.poster in
     let near : c.args.looper < length posters = omega (arith, c.len.ensures, c.if-place-len.true) in
-    both_ok c.perform_by.result
+    both_ok c.perform.result
     (λ token. Makes p q (call_made c.args.call) (tokens_of token))
     (λ token. IsAtItsMoment c.args.call token p q)
     (λ token. CallsAt c.args.looper c.args.call token posters (set posters c.args.looper q))
     (λ token made at. calls_at_set posters c.args.looper p q c.args.call token c.index_mut.ensures.value near
-    (record { sender = c.perform_by.ensures.called.on.sender; seen = (c.perform_by.ensures.called.on.more, sym c.perform_by.ensures.called.on.seen); made = made; moment = at }))
-    c.perform_by.ensures.called.made c.perform_by.ensures.answered.moment
+    (record { sender = c.perform.ensures.called.on.sender; seen = (c.perform.ensures.called.on.more, sym c.perform.ensures.called.on.seen); made = made; moment = at }))
+    c.perform.ensures.called.made c.perform.ensures.answered.moment
 
 pub returns-clause-made : goal.returns-clause-made
 returns-clause-made g c =
@@ -68,7 +68,7 @@ returns-clause-made g c =
 pub returns-then-place-len-2-clause-token : goal.returns-then-place-len-2-clause-token
 returns-then-place-len-2-clause-token g c =
     let posters = c.args.self.now.kit.posters.items in
-    IfOk-weaker c.perform_by.result (λ token. is_some token ≡ posts_barrier c.args.call) (λ token. c.args.looper < length posters → is_some token ≡ posts_barrier c.args.call) (λ token is. λ near. is) c.perform_by.ensures.answered.token
+    IfOk-weaker c.perform.result (λ token. is_some token ≡ posts_barrier c.args.call) (λ token. c.args.looper < length posters → is_some token ≡ posts_barrier c.args.call) (λ token is. λ near. is) c.perform.ensures.answered.token
 
 pub returns-clause-token : goal.returns-clause-token
 returns-clause-token g c =

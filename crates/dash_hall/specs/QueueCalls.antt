@@ -1,33 +1,18 @@
--- The calls that are made by handlers.
+-- The calls that a sender makes on a queue.
 use Rattle.std.specs.Prelude.{◌≡◌, ℕ, Bool, true, false, Option, Some, None, is_some, List, [], ◌∷◌, Result, IfOk, OnErr}
 use Rattle.loop_model.specs.declared.call.Call.{Call}
 use Rattle.loop_model.specs.declared.call.Call.TheVariants.{Post, Remove, Barrier, Unbarrier, Quit}
-use Rattle.loop_model.specs.declared.post.Kind.TheVariants as kind
-use Rattle.handler_post.specs.declared.handler.Handler.{Handler}
 use Rattle.queue_state.specs.declared.answers.Quitting.TheVariants as quitting
 use Rattle.shared_queue.specs.Calls.{QuitBy}
 use Rattle.handler_post.specs.declared.way.Sent.{Sent}
 use Rattle.handler_post.specs.declared.way.Sent.TheVariants.{Accepted, Refused, NoMemory}
 use Rattle.handler_post.specs.declared.way.Erased.{Erased}
 use Rattle.handler_post.specs.declared.way.Erased.TheVariants.{Removed, NoMemory as NoRoom}
-use Rattle.loop_model.specs.Posts.{moment_after}
-use Rattle.handler_post.specs.Forms.{message_by, callback_by, filter_by}
 use Rattle.looper_run.specs.Holding.{Sender}
+use Rattle.run_model.specs.Planned.{plain}
 use Rattle.dash_hall.specs.Growth.{BarsOf, QuitsOf}
-use Rattle.dash_hall.specs.declared.handlers.Request.{Request}
-use Rattle.dash_hall.specs.declared.handlers.Request.TheVariants as request
 use Rattle.dash_hall.specs.declared.calls.QueueCall.{QueueCall}
 use Rattle.dash_hall.specs.declared.calls.QueueCall.TheVariants as on_queue
-
--- the call of a request, by a handler
-abbrev pub call_by : Handler → Request → Call
-call_by h (request.Send what arg obj when) = Post (message_by h what arg obj when)
-call_by h (request.SendAsync what when) = Post (record (message_by h what 0 None when) { asynchronous = true })
-call_by h (request.SendFront what) = Post (message_by h what 0 None 0)
-call_by h (request.PostCallback id now delay) = Post (callback_by h id None (moment_after now delay))
-call_by h (request.RemoveMessages what) = Remove (filter_by h (kind.What what) None)
-call_by h (request.RemoveCallbacks id) = Remove (filter_by h (kind.Callback id) None)
-call_by h request.RemoveAll = Remove (filter_by h kind.All None)
 
 -- what holds of a sending that found no memory, and of any other
 abbrev pub IfSent : Sent → Type 0 → Type 0 → Type 0
@@ -42,7 +27,8 @@ IfErased (Removed count) P Q = Q
 
 -- a call on a queue, without what is left open: the slot of a message, and the moment of a barrier or a quit
 abbrev pub call_made : QueueCall → Call
-call_made (on_queue.ByHandler handler request) = call_by handler request
+call_made (on_queue.Send post) = plain (Post post)
+call_made (on_queue.Remove filter) = Remove filter
 call_made (on_queue.PostBarrier now) = Barrier 0
 call_made (on_queue.RemoveBarrier token) = Unbarrier token
 call_made (on_queue.Quit safe now) = Quit safe 0
@@ -59,7 +45,8 @@ tokens_of (Some token) = token ∷ []
 
 -- where the call has a moment, it was one turn at that moment
 abbrev pub IsAtItsMoment : QueueCall → Option ℕ → Sender → Sender → Type 0
-IsAtItsMoment (on_queue.ByHandler handler request) token before after = Unit {0}
+IsAtItsMoment (on_queue.Send post) token before after = Unit {0}
+IsAtItsMoment (on_queue.Remove filter) token before after = Unit {0}
 IsAtItsMoment (on_queue.PostBarrier now) None before after = ⊥
 IsAtItsMoment (on_queue.PostBarrier now) (Some token) before after = BarsOf before after now token
 IsAtItsMoment (on_queue.RemoveBarrier barrier) token before after = Unit {0}
@@ -67,7 +54,8 @@ IsAtItsMoment (on_queue.Quit safe now) token before after = QuitsOf before after
 
 -- where the call is a quit, it was one turn that found no memory to enter a quit that is refused
 abbrev pub IsRefusedQuit : QueueCall → Sender → Sender → Type 0
-IsRefusedQuit (on_queue.ByHandler handler request) before after = Unit {0}
+IsRefusedQuit (on_queue.Send post) before after = Unit {0}
+IsRefusedQuit (on_queue.Remove filter) before after = Unit {0}
 IsRefusedQuit (on_queue.PostBarrier now) before after = Unit {0}
 IsRefusedQuit (on_queue.RemoveBarrier barrier) before after = Unit {0}
 IsRefusedQuit (on_queue.Quit safe now) before after = QuitBy before after safe now quitting.NoMemory
