@@ -6,7 +6,7 @@ ghost use Rattle.handler_post.specs.Forms.{message_by, callback_by, filter_by};
 ghost use Rattle.handler_post.specs.Ways.{IsReady, ByWay};
 ghost use Rattle.handler_post.specs.Sends.{Sends, Erases, Has};
 
-use crate::way::{Erased, Sent, Way, erase, send};
+use crate::way::{Erased, Sent, Way};
 use loop_model::{Filter, Kind, Post};
 use message_pool::Payload;
 use queue_state::Recorder;
@@ -129,7 +129,7 @@ impl Handler {
         requires { IsReady way.old }
         ensures { ByWay (Sends (message_by self.now what arg obj now)) way.old way.new result }
     {
-        send(rt, alloc, way, &self.message(what, arg, obj, now))
+        way.send(rt, alloc, &self.message(what, arg, obj, now))
     }
 
     /// Sends a message that is due at `when`, in milliseconds (`sendMessageAtTime`).
@@ -146,7 +146,7 @@ impl Handler {
         requires { IsReady way.old }
         ensures { ByWay (Sends (message_by self.now what arg obj when)) way.old way.new result }
     {
-        send(rt, alloc, way, &self.message(what, arg, obj, when))
+        way.send(rt, alloc, &self.message(what, arg, obj, when))
     }
 
     /// Sends a message that is due at `when`, in milliseconds, and that barriers let pass in any case
@@ -167,7 +167,7 @@ impl Handler {
             asynchronous: true,
             ..self.message(what, arg, None, when)
         };
-        send(rt, alloc, way, &post)
+        way.send(rt, alloc, &post)
     }
 
     /// Sends a message that is due `delay` milliseconds after `now`, or at the last moment where that lies behind it
@@ -187,7 +187,7 @@ impl Handler {
         ensures { ByWay (Sends (message_by self.now what arg obj (moment_after now delay))) way.old way.new result }
     {
         let when = now.saturating_add(delay);
-        send(rt, alloc, way, &self.message(what, arg, obj, when))
+        way.send(rt, alloc, &self.message(what, arg, obj, when))
     }
 
     /// Sends a message that is due `delay` milliseconds after `now`, or at the last moment where that lies behind it, and that
@@ -222,7 +222,7 @@ impl Handler {
         requires { IsReady way.old }
         ensures { ByWay (Sends (message_by self.now what arg obj 0)) way.old way.new result }
     {
-        send(rt, alloc, way, &self.message(what, arg, obj, 0))
+        way.send(rt, alloc, &self.message(what, arg, obj, 0))
     }
 
     /// Posts a callback that is due at once, where `now` is the time in milliseconds (`post`).
@@ -237,7 +237,7 @@ impl Handler {
         requires { IsReady way.old }
         ensures { ByWay (Sends (callback_by self.now callback None now)) way.old way.new result }
     {
-        send(rt, alloc, way, &self.callback(callback, None, now))
+        way.send(rt, alloc, &self.callback(callback, None, now))
     }
 
     /// Posts a callback that is due `delay` milliseconds after `now`, or at the last moment where that lies behind it
@@ -255,7 +255,7 @@ impl Handler {
         ensures { ByWay (Sends (callback_by self.now callback None (moment_after now delay))) way.old way.new result }
     {
         let when = now.saturating_add(delay);
-        send(rt, alloc, way, &self.callback(callback, None, when))
+        way.send(rt, alloc, &self.callback(callback, None, when))
     }
 
     /// Posts a callback that is due at `when`, in milliseconds, with a token by which it may be removed (`postAtTime`).
@@ -271,7 +271,7 @@ impl Handler {
         requires { IsReady way.old }
         ensures { ByWay (Sends (callback_by self.now callback token when)) way.old way.new result }
     {
-        send(rt, alloc, way, &self.callback(callback, token, when))
+        way.send(rt, alloc, &self.callback(callback, token, when))
     }
 
     /// Posts a callback that is due `delay` milliseconds after `now`, or at the last moment where that lies behind it, with a token
@@ -304,7 +304,7 @@ impl Handler {
         requires { IsReady way.old }
         ensures { ByWay (Sends (callback_by self.now callback None 0)) way.old way.new result }
     {
-        send(rt, alloc, way, &self.callback(callback, None, 0))
+        way.send(rt, alloc, &self.callback(callback, None, 0))
     }
 
     /// Removes this handler's messages with this `what`, and with this object where one is named (`removeMessages`). A posted
@@ -319,7 +319,7 @@ impl Handler {
         requires { IsReady way.old }
         ensures { ByWay (Erases (filter_by self.now (What what) obj)) way.old way.new result }
     {
-        erase(rt, way, &self.filter(Kind::What(what), obj))
+        way.remove(rt, &self.filter(Kind::What(what), obj))
     }
 
     /// Removes this handler's posts of this callback, and with this object where one is named (`removeCallbacks`).
@@ -333,7 +333,7 @@ impl Handler {
         requires { IsReady way.old }
         ensures { ByWay (Erases (filter_by self.now (Callback callback) obj)) way.old way.new result }
     {
-        erase(rt, way, &self.filter(Kind::Callback(callback), obj))
+        way.remove(rt, &self.filter(Kind::Callback(callback), obj))
     }
 
     /// Removes all of this handler's messages and callbacks, or those with this object where one is named
@@ -347,7 +347,7 @@ impl Handler {
         requires { IsReady way.old }
         ensures { ByWay (Erases (filter_by self.now All obj)) way.old way.new result }
     {
-        erase(rt, way, &self.filter(Kind::All, obj))
+        way.remove(rt, &self.filter(Kind::All, obj))
     }
 
     /// Whether a message of this handler with this `what`, and with this object where one is named, stands in the queue

@@ -3,11 +3,11 @@ ghost use Rattle.handler_post.specs.Ways.{IsReady, ByWay};
 ghost use Rattle.handler_post.specs.Sends.{Sends, Erases, Has, Idles};
 ghost use Rattle.handler_post.specs.Unhandled.{WayBars, WayUnbars, Quits};
 
-use crate::supply::recycle_all;
-use crate::way::{Erased, Sent, Way, erase, send};
+use crate::supply::{message_of, recycle_all};
+use crate::way::{Erased, Sent, Way};
 use loop_model::{Filter, NoMemory, Post};
 use message_pool::{Obtained, Payload};
-use queue_state::{BarrierGone, BarrierPosted, Quitting, Recorder};
+use queue_state::{BarrierGone, BarrierPosted, Posted, Quitting, Recorder, Taking};
 use std::alloc::Global;
 use std::sync::Wait;
 
@@ -25,12 +25,26 @@ pub enum Quit {
 }
 
 impl<'a, E: Recorder, P: Payload> Way<'a, E, P> {
-    /// Posts this, whatever handler it names. A message that the queue doesn't keep is recycled (`enqueueMessage`).
+    /// Obtains a message, makes it this post, whatever handler it names, and posts it. A message that the queue doesn't keep is recycled
+    /// (`enqueueMessage`).
     pub fn send<R: Wait>(&mut self, rt: &R, alloc: Global, post: &Post) -> Sent
         requires { IsReady self.old }
         ensures { ByWay (Sends post.now) self.old self.new result }
     {
-        send(rt, alloc, self, post)
+        let Some(node) = message_of(alloc, self.pool, self.pass, post) else {
+            return Sent::NoMemory;
+        };
+        match self.poster.post(rt, self.queue, node) {
+            Posted::Accepted { number, wake } => Sent::Accepted { number, wake },
+            Posted::Refused { place, node } => {
+                self.pool.recycle(self.pass, node);
+                Sent::Refused { place }
+            }
+            Posted::NoMemory(node) => {
+                self.pool.recycle(self.pass, node);
+                Sent::NoMemory
+            }
+        }
     }
 
     /// Removes the messages that the filter names, and recycles them.
@@ -38,7 +52,14 @@ impl<'a, E: Recorder, P: Payload> Way<'a, E, P> {
         requires { IsReady self.old }
         ensures { ByWay (Erases filter.now) self.old self.new result }
     {
-        erase(rt, self, filter)
+        match self.poster.remove(rt, self.queue, filter) {
+            Taking::Removed(nodes) => {
+                let count = nodes.len() as u64;
+                recycle_all(self.pool, self.pass, nodes);
+                Erased::Removed { count }
+            }
+            Taking::NoMemory => Erased::NoMemory,
+        }
     }
 
     /// Whether a message that the filter names stands in the queue. It makes no entry.
