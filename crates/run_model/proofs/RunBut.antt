@@ -24,7 +24,7 @@ use Rattle.run_model.specs.Senders.{looper_sender, controller}
 use Rattle.run_model.specs.Moments.{in_lockstep}
 use Rattle.run_model.specs.Control.{is_called_in_time, are_before_quit, befores, are_on_time}
 use Rattle.run_model.specs.Loopers.{Looper, first_looper}
-use Rattle.run_model.specs.Acts.{MayCome, after_act, Lead, IsSent}
+use Rattle.run_model.specs.Acts.{MayCome, after_act, Lead, has_frames, IsSent}
 use Rattle.run_model.specs.Moves.{Move, moves, move_times, main_moves, MayMoveTo}
 use Rattle.run_model.specs.FrameRuns.{are_run_then, are_whole}
 use Rattle.run_model.specs.FrameAsks.{asks_in}
@@ -71,6 +71,8 @@ pub data Clause : Type 0 where
   Rising : Clause
   -- each pulse comes once the frame message of the one before it is taken, and a frame runs for such a pulse
   Awaited : Clause
+  -- each pulse whose message is taken has its frame
+  Framed : Clause
 
 abbrev pub number_of : Clause → ℕ
 number_of Nothing = 0
@@ -92,6 +94,7 @@ number_of Together = 15
 number_of InTurn = 16
 number_of Rising = 17
 number_of Awaited = 18
+number_of Framed = 19
 
 -- this is so, unless it is the clause that is left out
 abbrev pub Unless : Clause → Clause → Type 0 → Type 0
@@ -158,6 +161,7 @@ pub record IsLooperRunBut (out : Clause) (s : Script) (queues : List QueueRecord
   pub whole : Unless out Whole (are_whole f.phases f.entries final.frames ≡ true)
   pub on_time : Unless out OnTime (Unless out Takes (AllByRecursion (λ (r : QueueRecord). are_on_time (map (λ x. x.timing) (caused_on r.looper final q.looper disposed_at)) (befores (looper_sender s q.looper) (history_of r)) ≡ true) queues))
   pub moments : Unless out Moments (Unless out Starts (are_run_then f.entries final.frames ≡ true))
+  pub pulses : Unless out Framed (Unless out Awaited (has_frames j.acts final ≡ true))
 
 -- a choreographer's record, but for the clause that is left out
 pub record IsFrameRunBut (out : Clause) (s : Script) (f : FrameRecord) : Type 0 where
@@ -222,6 +226,7 @@ is_run s r h = record {
     whole = x.whole;
     on_time = x.on_time;
     moments = x.moments;
+    pulses = x.pulses;
   }) r.queues r.journals r.frames h.loopers;
   timely = record {
     halted = h.halted;

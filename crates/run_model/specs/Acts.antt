@@ -1,5 +1,6 @@
 -- What the acts in a looper's journal cause.
-use Rattle.std.specs.Prelude.{◌≡◌, ℕ, ◌+◌, ◌/◌, ◌==◌, true, false, ◌||◌, not, List, [], ◌∷◌, ◌++◌, Option, Some, None, is_some, filter, if◌then◌else◌}
+use Rattle.std.specs.Prelude.{◌≡◌, ℕ, ◌+◌, ◌/◌, ◌==◌, Bool, true, false, ◌||◌, not, List, [], ◌∷◌, ◌++◌, length, Option, Some, None, is_some, filter, if◌then◌else◌}
+use Rattle.std.specs.List.{filter_map}
 use Rattle.std.specs.Option.{option_map_or, MatchOption}
 use Rattle.loop_model.specs.declared.post.Post.{Post as PostData}
 use Rattle.loop_model.specs.declared.call.Call.TheVariants.{Post, Next}
@@ -76,6 +77,15 @@ MayCome s q es fs frame a _ = (frame ≡ None) × (a.painted ≡ [])
 abbrev pub Lead : Script → ℕ → List Entry → List FrameEntry → Looper → List Act → Looper → Type 0
 Lead s q es fs a [] b = a ≡ b
 Lead s q es fs a (x ∷ xs) b = (frame : Option ℕ) × (MayCome s q es fs frame a x × Lead s q es fs (after_act s q es fs frame a x) xs b)
+
+-- the stamp of a pulse
+abbrev pub pulse_stamp : Act → Option ℕ
+pulse_stamp (Vsync stamp) = Some stamp
+pulse_stamp _ = None
+
+-- there are as many frames as pulses, but for one whose frame message isn't taken yet
+abbrev pub has_frames : List Act → Looper → Bool
+has_frames acts a = length (filter_map pulse_stamp acts) == length a.frames + (if a.awaits then 1 else 0)
 
 -- the calls on one queue
 abbrev pub sent_on : ℕ → List Sent → List Sent

@@ -23,7 +23,7 @@ use Rattle.run_model.specs.Moments.{Mode, IfLockstep, IsStart, AreOfClock}
 use Rattle.run_model.specs.Planned.{lines_of, labels_on, lines_on, times_on, AreAsPlanned}
 use Rattle.run_model.specs.Control.{is_controlled, ends_halted, is_called_in_time, are_before_quit, befores, InBlock, are_on_time, each_behind}
 use Rattle.run_model.specs.Loopers.{Looper, Sent, first_looper}
-use Rattle.run_model.specs.Acts.{Lead, sent_on, closing, IsSent}
+use Rattle.run_model.specs.Acts.{Lead, has_frames, sent_on, closing, IsSent}
 use Rattle.run_model.specs.Moves.{moves, AreMovedTogether}
 use Rattle.run_model.specs.FrameRuns.{are_run_then, are_whole}
 use Rattle.run_model.specs.FrameAsks.{asks_in}
@@ -94,7 +94,7 @@ caused_on queue final looper disposed_at = sent_on queue (final.sent ++ closing 
 
 -- a looper's calls on each queue are those that its acts cause, the posts, removals and frames of its frame record are parted among those who ask for
 -- them, in turn, the frames are whole, and its Dispatch acts are, one for one and in order, its entries answered Dispatched. All that was painted is told. In
--- lockstep each call is on time, and each frame starts and takes its phases at the time of its dispatch
+-- lockstep each call is on time, each frame starts and takes its phases at the time of its dispatch, and each pulse whose message is taken has its frame
 pub record IsLooperRun (m : Mode) (s : Script) (queues : List QueueRecord) (q : QueueRecord) (j : Journal) (f : FrameRecord) : Type 0 where
   pub final : Looper
   pub acts : Lead s q.looper (history_of q) f.entries (first_looper s) j.acts final
@@ -108,6 +108,7 @@ pub record IsLooperRun (m : Mode) (s : Script) (queues : List QueueRecord) (q : 
   pub on_time : IfLockstep m (AllByRecursion (λ (r : QueueRecord).
       are_on_time (map (λ x. x.timing) (caused_on r.looper final q.looper disposed_at)) (befores (looper_sender s q.looper) (history_of r)) ≡ true) queues)
   pub moments : IfLockstep m (are_run_then f.entries final.frames ≡ true)
+  pub pulses : IfLockstep m (has_frames j.acts final ≡ true)
 
 -- each looper's queue, journal and frame record, and no others
 abbrev pub EachLooper : (QueueRecord → Journal → FrameRecord → Type 0) → List QueueRecord → List Journal → List FrameRecord → Type 0
