@@ -19,7 +19,7 @@ use Rattle.choreographer.specs.Calls.{IfBackwards}
 use Rattle.choreographer.proofs.Quiet.{quiet_same}
 
 -- no moment of two lists is later
-later_parts : (t : ℕ) (xs ys : List FrameEntry) → has_later t (xs ++ ys) ≡ false → (has_later t xs ≡ false) × (has_later t ys ≡ false)
+pub later_parts : (t : ℕ) (xs ys : List FrameEntry) → has_later t (xs ++ ys) ≡ false → (has_later t xs ≡ false) × (has_later t ys ≡ false)
 later_parts t [] ys none = (refl, none)
 later_parts t (x ∷ xs) ys none =
     let p = or_parts (is_later t x) (has_later t (xs ++ ys)) none in

@@ -123,19 +123,23 @@ none_behind n xs more same =
     let b = length-append (dealt_to n xs) (dealt_to n more) in
     nil_from_length (dealt_to n more) (omega (arith, a, b))
 
+-- where a list has of the one pass what its beginning has, there is none of that pass behind that
+pub no_more : (n : ℕ) (passes : List ℕ) (xs ys : List (ℕ × FrameEntry)) (begins : IsPrefix xs ys) → passes ≡ n ∷ [] → map (λ k. dealt_to k ys) passes ≡ map (λ k. dealt_to k xs) passes
+    → dealt_to n begins.0 ≡ []
+no_more n passes xs ys begins one same =
+    none_behind n xs begins.0 (ap (dealt_to n) begins.1
+    ∙ subst (λ (ps : List ℕ). get_or (map (λ k. dealt_to k ys) ps) 0 [] ≡ get_or (map (λ k. dealt_to k xs) ps) 0 []) one (ap (λ (l : List (List FrameEntry)). get_or l 0 []) same))
+
 -- a turn of a pass: what others recorded, and behind that what it recorded itself
 pub turn_hears : (before after : Known) (x y : Kept) (made : List (ℕ × FrameEntry)) → before.view.passes ≡ before.number ∷ [] → HasOwn before.view → FoundHeard before.view x made
     → after.number ≡ before.number → after.view ≡ giving (taking before.view x made) y → HasOwn after.view → HearsTurn before after x y
 turn_hears before after x y made one own found number is own' =
-    let parts_of : List (ℕ × FrameEntry) → List (List FrameEntry) = λ l. map (λ n. dealt_to n l) before.view.passes in
-    let same : parts_of made ≡ parts_of before.view.heard = sym found.parts ∙ own.heard in
-    let mine : dealt_to before.number made ≡ dealt_to before.number before.view.heard =
-    subst (λ (ps : List ℕ). get_or (map (λ n. dealt_to n made) ps) 0 [] ≡ get_or (map (λ n. dealt_to n before.view.heard) ps) 0 []) one (ap (λ (l : List (List FrameEntry)). get_or l 0 []) same) in
+    let none : dealt_to before.number found.begins.0 ≡ [] = no_more before.number before.view.passes before.view.heard made found.begins one (sym found.parts ∙ own.heard) in
     record {
       knew = knows_own before one own;
       others = found.begins.0;
-      of_others = none_behind before.number before.view.heard found.begins.0 (ap (dealt_to before.number) found.begins.1 ∙ mine);
-      quiet = λ c e named. quiet_others before.number found.begins.0 (none_behind before.number before.view.heard found.begins.0 (ap (dealt_to before.number) found.begins.1 ∙ mine))
+      of_others = none;
+      quiet = λ c e named. quiet_others before.number found.begins.0 none
           (quiet_but_rest before.number before.view.heard found.begins.0 (subst (AreQuietBut before.number) (sym found.begins.1) (found.quiet c e before.number named)));
       heard = ap (λ (v : View). v.heard) is
           ∙ (λ i. sym found.begins.1 i ++ all_by (get_or (one i) 0 0) (drop (length x.frames.entries) y.frames.entries));

@@ -1,14 +1,18 @@
 -- A pass takes in what another one has heard.
 use Rattle.std.proofs.Common.{◌≡◌, ℕ, ◌<◌, Option, Some, None, List, [], ◌∷◌, ◌++◌, refl, sym, ap, ◌∙◌, subst, arith, append-nil}
-use Rattle.std.specs.Prelude.{All}
-use mathlib.Core.List.{IsPrefix}
+use Rattle.std.specs.Prelude.{All, map}
+use mathlib.Core.List.{IsPrefix, map-append}
 use Rattle.atomic_table.specs.Seated.{TableId}
 use Rattle.loop_model.specs.Lists.{longer}
 use Rattle.frame_phases.specs.declared.entry.FrameEntry.{FrameEntry}
+use Rattle.frame_phases.specs.Parting.{dealt_to}
 use Rattle.choreographer.specs.declared.view.Constants.{Constants}
 use Rattle.choreographer.specs.declared.view.Progress.{Progress}
 use Rattle.choreographer.specs.declared.view.View.{View}
-use Rattle.choreographer.specs.Turn.{HasParts, AreNumbersOf, count_of, last_of, entries_of, fresh, either_frame, joined}
+use Rattle.choreographer.specs.Frame.{GrowsQuietly}
+use Rattle.choreographer.proofs.Heard.{no_more}
+use Rattle.choreographer.proofs.Others.{quiet_but_rest, quiet_others}
+use Rattle.choreographer.specs.Turn.{HasParts, AreNumbersOf, AreQuietBut, count_of, last_of, entries_of, fresh, either_frame, joined}
 use Rattle.choreographer.specs.Plays.{Sat}
 use Rattle.choreographer.specs.Known.{IsIdle, HasOnlyHeard}
 
@@ -19,7 +23,8 @@ either_none (Some f) = refl
 -- m is the pass's seat with the note taken in, and n the same once the lists are compared
 module _ (number : ℕ) (s : Sat) (o : View) (m n : Sat) (idle : IsIdle number s) (took_in : m ≡ (joined s.0 (fresh o []), s.1)) (same : n ≡ m)
     (told : All (λ t. IsPrefix t m.0.heard) m.0.told) (entries : entries_of m.0.heard ≡ m.0.seen) (parts : HasParts m.0.heard m.0)
-    (numbers : (c : Constants) → m.0.constants ≡ Some c → AreNumbersOf c m.0.heard) where
+    (numbers : (c : Constants) → m.0.constants ≡ Some c → AreNumbersOf c m.0.heard)
+    (quiet : (c : Constants) → m.0.constants ≡ Some c → (k : ℕ) → c.pulses ≡ Some k → AreQuietBut k m.0.heard) where
   now : n.0 ≡ joined s.0 (fresh o [])
   now = ap (λ (z : Sat). z.0) (same ∙ took_in)
 
@@ -58,6 +63,21 @@ module _ (number : ℕ) (s : Sat) (o : View) (m n : Sat) (idle : IsIdle number s
     },
   )
 
+  -- what was heard of by a pass that alone delivers pulses
+  heard_quietly : (c : Constants) → s.0.constants ≡ Some c → c.pulses ≡ Some number → GrowsQuietly s.0.seen n.0.seen
+  heard_quietly c e named =
+      let begins : IsPrefix s.0.heard m.0.heard = subst (λ (z : Sat). IsPrefix s.0.heard z.0.heard) same heard_begins.0 in
+      let of_passes = ap (λ (z : Sat). z.0.passes) took_in ∙ append-nil s.0.passes in
+      let now_parts : map (λ k. dealt_to k m.0.heard) s.0.passes ≡ s.0.parts =
+      ap (map (λ k. dealt_to k m.0.heard)) (sym of_passes) ∙ (sym parts ∙ (ap (λ (z : Sat). z.0.parts) took_in ∙ append-nil s.0.parts)) in
+      let none : dealt_to number begins.0 ≡ [] = no_more number s.0.passes s.0.heard m.0.heard begins idle.2 (now_parts ∙ idle.3.heard) in
+      let hushed = quiet_but_rest number s.0.heard begins.0 (subst (AreQuietBut number) (sym begins.1) (quiet c (ap (λ (z : Sat). z.0.constants) took_in ∙ e) number named)) in (
+        entries_of begins.0,
+        ap (λ (l : List FrameEntry). l ++ entries_of begins.0) (sym idle.3.seen)
+            ∙ (sym (map-append (λ (d : ℕ × FrameEntry). d.1) s.0.heard begins.0) ∙ (ap entries_of begins.1 ∙ (entries ∙ ap (λ (z : Sat). z.0.seen) (sym same)))),
+        quiet_others number begins.0 none hushed,
+      )
+
   pub only_heard : (before after : TableId) → after ≡ before → HasOnlyHeard (record { table = before; number = number; view = s.0 }) (record { table = after; number = number; view = n.0 })
   only_heard before after same_table = record {
     table = same_table;
@@ -71,4 +91,5 @@ module _ (number : ℕ) (s : Sat) (o : View) (m n : Sat) (idle : IsIdle number s
     handed = handed_now;
     stamp = ap (λ (z : View). z.stamp) now ∙ omega arith;
     awaits = ap (λ (z : View). z.awaits) now ∙ omega arith;
+    quiet = heard_quietly;
   }

@@ -2,6 +2,7 @@
 use Rattle.std.proofs.Common.{◌≡◌, ◌≢◌, ℕ, ◌==◌, Bool, true, false, Option, Some, None, List, [], ◌∷◌, ◌++◌, drop, length, sym, ap, ◌∙◌, subst, eq-eqb}
 use Rattle.std.specs.Prelude.{if◌then◌else◌}
 use Rattle.std.specs.List.{cons_option}
+use mathlib.Core.List.{IsPrefix}
 use mathlib.Core.Logic.{dite}
 use native.Mathlib.Decide.{ℕ_discrete}
 use Rattle.frame_phases.specs.declared.entry.FrameEntry.{FrameEntry}
@@ -32,6 +33,13 @@ module _ (n : ℕ) where
   pub quiet_but_rest : (xs ys : List (ℕ × FrameEntry)) → AreQuietBut n (xs ++ ys) → AreQuietBut n ys
   quiet_but_rest [] ys q = q
   quiet_but_rest (d ∷ xs) ys q = quiet_but_rest xs ys q.1
+
+  pub quiet_but_begin : (xs ys : List (ℕ × FrameEntry)) → IsPrefix xs ys → AreQuietBut n ys → AreQuietBut n xs
+  quiet_but_begin xs ys begins q = first xs begins.0 (subst (AreQuietBut n) (sym begins.1) q)
+    where
+      first : (es fs : List (ℕ × FrameEntry)) → AreQuietBut n (es ++ fs) → AreQuietBut n es
+      first [] fs all = tt
+      first (d ∷ es) fs all = (all.0, first es fs all.1)
 
   -- what the pass itself recorded
   own_entries : (k : ℕ) (es : List FrameEntry) → k ≡ n → AreQuietBut n (all_by k es)

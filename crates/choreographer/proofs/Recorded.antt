@@ -150,7 +150,7 @@ module _ {X : Type 0} (f : FrameEntry → Option X) (takes : (p n t : ℕ) → f
 pub asked_records : (before after : Known) (result : Option ℕ) → AskedBy before after result → after.view.own ≡ before.view.own
 asked_records before after result t = turn_records_none before after t.0 t.0 t.1 refl
 
-pulse_leaves : (x y : Kept) (now : ℕ) (sends sends' : List Sending) (result : Option Pulse) → SendsPulse x y now sends sends' result → y.frames.entries ≡ x.frames.entries
+pub pulse_leaves : (x y : Kept) (now : ℕ) (sends sends' : List Sending) (result : Option Pulse) → SendsPulse x y now sends sends' result → y.frames.entries ≡ x.frames.entries
 pulse_leaves x y now sends sends' None p = ap (λ (z : Kept). z.frames.entries) p.1
 pulse_leaves x y now sends sends' (Some q) p = ap (λ (z : Kept). z.frames.entries) p.1
 
@@ -161,7 +161,7 @@ scheduled_leaves : (s : Frames) (b : Bool) (o : Option ℕ) → (if b then s els
 scheduled_leaves s true o = refl
 scheduled_leaves s false o = refl
 
-due_leaves : (x : Kept) (now : ℕ) (b : Bool) → (if b then record x { frames = scheduled_at x.frames now } else x).frames.entries ≡ x.frames.entries
+pub due_leaves : (x : Kept) (now : ℕ) (b : Bool) → (if b then record x { frames = scheduled_at x.frames now } else x).frames.entries ≡ x.frames.entries
 due_leaves x now true = scheduled_leaves x.frames x.frames.scheduled (Some (pulse x.frames.interval now))
 due_leaves x now false = refl
 

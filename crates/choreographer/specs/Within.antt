@@ -9,7 +9,7 @@ use Rattle.frame_phases.specs.State.{scheduling, delivered}
 use Rattle.choreographer.specs.declared.kept.Kept.{Kept}
 use Rattle.choreographer.specs.Client.{Run, with_runs}
 use Rattle.choreographer.specs.Frame.{Batch, begin_place, ran_since, batches_since, progress}
-use Rattle.choreographer.specs.Known.{Known, IsTurn}
+use Rattle.choreographer.specs.Known.{Shared, Known, IsOf, MayDeliver, IsTurn}
 use Rattle.choreographer.specs.Steps.{pulsed, posts_at}
 use Rattle.choreographer.specs.Calls.{with_post}
 use Rattle.choreographer.specs.Done.{runs, runs_of, numbers_of, IsBatch, AreBatches, IsSamePass, TakesPhase, TakesEach}
@@ -31,6 +31,12 @@ pub record InFrame (phases : ℕ) (p : Known) (next : Option ℕ) : Type 0 where
   pub settled : owed (reverse p.view.seen) ≡ []
   -- its last turn left what it has seen
   pub left : (y : Kept) × (p.view.left ≡ Some y) × (y.frames.entries ≡ p.view.seen)
+
+-- a pass of this choreographer may take this phase: it has the frame in progress, and may deliver pulses
+pub record MayTake (q : Shared) (phase : ℕ) (p : Known) : Type 0 where
+  pub pass : IsOf p q
+  pub frame : InFrame q.constants.phases p (Some phase)
+  pub delivers : MayDeliver p q
 
 -- the next phase, or none behind the last
 abbrev pub at_phase : ℕ → ℕ → Option ℕ

@@ -1,5 +1,5 @@
 -- Passes of choreographers that hear each other.
-use Rattle.std.proofs.Common.{◌≡◌, ℕ, ◌<◌, List, map, length, set, get_or, refl, sym, ap, ◌∙◌, subst}
+use Rattle.std.proofs.Common.{◌≡◌, ℕ, ◌<◌, Some, List, map, length, set, get_or, refl, sym, ap, ◌∙◌, subst}
 use Rattle.std.proofs.lemmas.List.{get_or-set_same, get_or-set_other, get_or_default, length-set, set-get_or}
 use mathlib.Core.List.{IsPrefix}
 use mathlib.Core.Logic.{dite}
@@ -7,6 +7,7 @@ use native.Mathlib.Decide.{ℕ_discrete}
 use Rattle.frame_phases.specs.declared.entry.FrameEntry.{FrameEntry}
 use Rattle.loop_model.proofs.Prefixes.{prefix_self, prefix_trans}
 use Rattle.choreographer.specs.Known.{Shared as Frames, Known as Pass, IsOf as IsFrameOf, HasOnlyHeard}
+use Rattle.choreographer.proofs.Quiet.{grows_self, grows_trans}
 use Rattle.dash_hall.specs.Kits.{frame_badge_of}
 use Rattle.dash_hall.specs.Hearing.{PassHasHeard, PassesHaveHeard, HasHeardAll, PassesHaveHeardAt, ArePassesReady, ArePassesKnown}
 use Rattle.dash_hall.proofs.Hearing.{map_alike}
@@ -15,7 +16,7 @@ use Rattle.dash_hall.proofs.Sharing.{each_then, each_self}
 -- a pass as it is
 pub pass_heard_self : (p : Pass) → PassHasHeard p p
 pass_heard_self p = record {
-  same = record { table = refl; number = refl; constants = refl; turns = refl; found = refl; left = refl; frame = refl; own = refl; handed = refl; stamp = refl; awaits = refl };
+  same = record { table = refl; number = refl; constants = refl; turns = refl; found = refl; left = refl; frame = refl; own = refl; handed = refl; stamp = refl; awaits = refl; quiet = λ c e named. grows_self p.view.seen };
   seen = prefix_self p.view.seen;
   more = prefix_self p.view.heard;
 }
@@ -39,6 +40,7 @@ pass_heard_then p q r f g = record {
     handed = g.same.handed ∙ f.same.handed;
     stamp = g.same.stamp ∙ f.same.stamp;
     awaits = g.same.awaits ∙ f.same.awaits;
+    quiet = λ c e named. grows_trans p.view.seen q.view.seen r.view.seen (f.same.quiet c e named) (g.same.quiet c (f.same.constants ∙ e) (named ∙ ap Some (sym f.same.number)));
   };
   seen = prefix_trans p.view.seen q.view.seen r.view.seen f.seen g.seen;
   more = prefix_trans p.view.heard q.view.heard r.view.heard f.more g.more;

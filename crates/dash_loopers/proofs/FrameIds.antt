@@ -1,6 +1,6 @@
 -- Which callbacks a frame runs, and at which moments, in the frame record and as its client tells them.
 use Rattle.std.proofs.Common.{◌≡◌, ◌+◌, ◌/◌, ◌<◌, ◌≤◌, ℕ, Bool, true, false, List, [], ◌∷◌, ◌++◌, length, take, drop, reverse, Option, Some, None, refl, sym, ap, ◌∙◌, subst, arith, append_assoc, eq-eqb}
-use Rattle.std.specs.Prelude.{◌==◌, map, slice_get, nat_le}
+use Rattle.std.specs.Prelude.{◌==◌, cond, map, slice_get, nat_le}
 use Rattle.std.specs.List.{filter_map, cons_option, before_first, list_all, AllByRecursion}
 use Rattle.std.specs.Option.{option_map_or}
 use Rattle.std.proofs.lemmas.List.{append-nil, map-append, reverse-append, reverse-reverse, length-reverse, length-append, length-map}
@@ -22,14 +22,15 @@ use Rattle.choreographer.specs.declared.frame.Framed.TheVariants.{Done, Elsewher
 use Rattle.choreographer.specs.Known.{Known as Pass, IsTurn}
 use Rattle.choreographer.specs.Client.{Run}
 use Rattle.choreographer.specs.Frame.{Batch, begin_place, ran_since, batches_since}
-use Rattle.choreographer.specs.Done.{runs, runs_of, numbers_of, AreBatches, AddsFrame, FramedBy, RecordsBy, UnlessNoMemory}
+use Rattle.choreographer.specs.Done.{runs, runs_of, numbers_of, AreBatches, AddsFrame, FramedBy, RecordsBy, EndsWait, UnlessNoMemory}
 use Rattle.choreographer.proofs.Recorded.{frame_tells}
 use Rattle.loop_model.proofs.Prefixes.{prefix_trans, prefix_length}
 use Rattle.run_model.specs.FrameRecords.{frame_ids, is_frame_from, begins_with, has_stamp, is_begin, posted_id, ran_id, moment_in, frame_moments, Runs}
 use Rattle.run_model.specs.FrameRecords.{asked_in, asks_in}
 use Rattle.run_model.proofs.FrameKeeping.{all-reverse, all-in_due_order, posted_in, posted-reverse, before_first-step, told_before, KeepsFrames-lawful}
 use Rattle.dash_hall.specs.Hosts.{asks_of}
-use Rattle.dash_loopers.specs.Played.{RanFrame, ids_of}
+use Rattle.choreographer.proofs.InTime.{frame_up_to, never_back}
+use Rattle.dash_loopers.specs.Played.{RanFrame, RunsInTime, HasLatest, ids_of}
 use Rattle.dash_loopers.proofs.LooperLists.{at_seam}
 use Rattle.dash_loopers.specs.Places.{HasEndedWait}
 
@@ -252,8 +253,9 @@ added_at xs ys zs more e place is long whole =
 pub turn_grew : (f g : Pass) (x y : Kept) → IsTurn f g x y → IsPrefix f.view.seen g.view.seen
 turn_grew f g x y t = prefix_trans f.view.seen x.frames.entries g.view.seen t.begins.0 (subst (IsPrefix x.frames.entries) (sym t.seen) t.grows)
 
-pub no_frame : (interval phases : ℕ) (is_moment : ℕ → Bool) (before after : Pass) (told : List Run) → told ≡ [] → IsPrefix before.view.seen after.view.seen → after.view.own ≡ before.view.own → RanFrame interval phases is_moment before after (ids_of told)
-no_frame interval phases is_moment before after told none grew own = record {
+pub no_frame : (interval phases : ℕ) (is_moment : ℕ → Bool) (before after : Pass) (told : List Run) → told ≡ [] → IsPrefix before.view.seen after.view.seen → after.view.own ≡ before.view.own → RunsInTime is_moment before after None
+    → RanFrame interval phases is_moment before after (ids_of told)
+no_frame interval phases is_moment before after told none grew own in_time = record {
   frame = None;
   start = 0;
   framed = λ fs begins is. (refl, ap ids_of (sym none), refl, refl);
@@ -262,15 +264,24 @@ no_frame interval phases is_moment before after told none grew own = record {
   grew = grew;
   asks = ap asks_in own ∙ sym (append-nil (asks_of before));
   stamped = λ stamp waits has fs begins. refl;
+  in_time = in_time;
 }
 
 -- a frame that was run was asked for by its start
 frame_asks : (is_moment : ℕ → Bool) (before after : Pass) (adds : AddsFrame is_moment before after) → asks_of after ≡ asks_of before ++ Runs adds.1 ∷ []
 frame_asks is_moment before after adds = frame_tells asked_in (λ p n t. refl) (λ n. refl) is_moment before after adds
 
+-- a frame that was to begin is to begin still, where the pass knows what it knew
+none_ended : {X : Type 0} (before after : Pass) (stamp : ℕ) (waits : Bool) → HasLatest before stamp waits → HasLatest after stamp false → waits ≡ true → after.view.awaits ≡ before.view.awaits → X
+none_ended before after stamp waits has over waiting same =
+    let one : before.view.awaits ≡ 1 = has.waits ∙ ap (λ (b : Bool). cond b 1 0) waiting in
+    let none : after.view.awaits ≡ 0 = over.waits in
+    absurd (omega (arith, one, none, same))
+
 -- a frame ran the callbacks that its client tells, at moments of the host
-pub framed_ran : (interval phases : ℕ) (is_moment : ℕ → Bool) (before after : Pass) (told : List Run) (r : Framed) → 0 < phases → FramedBy phases before after is_moment (Some []) (Some told) r → RecordsBy is_moment before after r → UnlessNoMemory r (RanFrame interval phases is_moment before after (ids_of told))
-framed_ran interval phases is_moment before after told Done some (start, time, middle, moment, turn, (batches, told_is, long, are, (y, left, numbers, batches_are, at, near, none, settled, seen_is), turns, grew, each)) records =
+pub framed_ran : (interval phases : ℕ) (is_moment : ℕ → Bool) (before after : Pass) (told : List Run) (r : Framed) → 0 < phases → FramedBy phases before after is_moment (Some []) (Some told) r → RecordsBy is_moment before after r → EndsWait before after r
+    → UnlessNoMemory r (RanFrame interval phases is_moment before after (ids_of told))
+framed_ran interval phases is_moment before after told Done some (start, time, middle, moment, turn, (batches, told_is, long, are, (y, left, numbers, batches_are, at, near, none, settled, seen_is), turns, grew, each)) records ends =
     let same : told ≡ runs_of batches = cc (told_is) in
     let many : length batches ≡ length (batches_since (past_of y.frames)) = ap length batches_are in
     let few : 0 < length (batches_since (past_of y.frames)) = omega (arith, some, long, many) in
@@ -305,11 +316,22 @@ framed_ran interval phases is_moment before after told Done some (start, time, m
           (sym (append_assoc middle.view.seen grew.0 begins.0) ∙ ap (λ l. l ++ begins.0) (grew.1 ∙ sym seen_is)) in
           let same : x.stamp ≡ stamp = (turn.2.stamp has.key has.constants has.alone).0 ∙ has.has in
           ap (λ (l : List FrameEntry). has_stamp l (Some place) stamp) (sym whole) ∙ (ap (λ (o : Option FrameEntry). option_map_or (begins_with stamp) o false) stood ∙ eq-eqb x.stamp stamp same));
+      in_time = λ t stamp waits only has up_to. (
+        frame_up_to t is_moment only phases before after (Some []) (Some told) Done
+            (start, time, middle, moment, turn, (batches, told_is, long, are, (y, left, numbers, batches_are, at, near, none, settled, seen_is), turns, grew, each)) has.key has.constants has.alone up_to,
+        λ waiting over. refl,
+      );
     }
-framed_ran interval phases is_moment before after told (Elsewhere next) some (start, moment, turn, told_is) own = no_frame interval phases is_moment before after told (let same : told ≡ [] = cc (told_is) in same) (turn_grew before after turn.0 turn.1 turn.2) own
-framed_ran interval phases is_moment before after told Unscheduled some (start, moment, turn, told_is) own = no_frame interval phases is_moment before after told (let same : told ≡ [] = cc (told_is) in same) (turn_grew before after turn.0 turn.1 turn.2) own
-framed_ran interval phases is_moment before after told (Backwards last) some (start, moment, turn, told_is, later) own = no_frame interval phases is_moment before after told (let same : told ≡ [] = cc (told_is) in same) (turn_grew before after turn.0 turn.1 turn.2) own
-framed_ran interval phases is_moment before after told NoMemory some t records = tt
+framed_ran interval phases is_moment before after told (Elsewhere next) some (start, moment, turn, told_is) own ends =
+    no_frame interval phases is_moment before after told (let same : told ≡ [] = cc (told_is) in same) (turn_grew before after turn.0 turn.1 turn.2) own
+    (λ t stamp waits only has up_to. (frame_up_to t is_moment only phases before after (Some []) (Some told) (Elsewhere next) (start, moment, turn, told_is) has.key has.constants has.alone up_to, λ waiting over. none_ended before after stamp waits has over waiting (ends has.key has.constants has.alone)))
+framed_ran interval phases is_moment before after told Unscheduled some (start, moment, turn, told_is) own ends =
+    no_frame interval phases is_moment before after told (let same : told ≡ [] = cc (told_is) in same) (turn_grew before after turn.0 turn.1 turn.2) own
+    (λ t stamp waits only has up_to. (frame_up_to t is_moment only phases before after (Some []) (Some told) Unscheduled (start, moment, turn, told_is) has.key has.constants has.alone up_to, λ waiting over. absurd (ends has.key has.constants has.alone)))
+framed_ran interval phases is_moment before after told (Backwards last) some (start, moment, turn, told_is, later) own ends =
+    no_frame interval phases is_moment before after told (let same : told ≡ [] = cc (told_is) in same) (turn_grew before after turn.0 turn.1 turn.2) own
+    (λ t stamp waits only has up_to. (frame_up_to t is_moment only phases before after (Some []) (Some told) (Backwards last) (start, moment, turn, told_is, later) has.key has.constants has.alone up_to, λ waiting over. absurd (never_back t is_moment only phases last before after (Some []) (Some told) (start, moment, turn, told_is, later) has.key has.constants has.alone up_to)))
+framed_ran interval phases is_moment before after told NoMemory some t records ends = tt
 
 -- what holds where memory was not wanting
 pub not_wanting : (r : Framed) (P : Type 0) → HasEndedWait r → UnlessNoMemory r P → P

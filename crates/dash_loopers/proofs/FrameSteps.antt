@@ -8,7 +8,7 @@ use Rattle.looper_run.specs.Holding.{Sender}
 use Rattle.choreographer.specs.declared.frame.Framed.{Framed}
 use Rattle.choreographer.specs.Known.{Known as Pass}
 use Rattle.choreographer.specs.Client.{Run}
-use Rattle.choreographer.specs.Done.{FramedBy, RecordsBy, UnlessNoMemory}
+use Rattle.choreographer.specs.Done.{FramedBy, RecordsBy, EndsWait, UnlessNoMemory}
 use Rattle.dash_script.specs.declared.script.Script.{Script}
 use Rattle.run_model.specs.Loopers.{Looper, callback_ran}
 use Rattle.dash_loopers.specs.declared.view_root.ViewRoot.{ViewRoot}
@@ -38,11 +38,11 @@ FrameShows now ids p root p' root' = (s : Script) (q : ℕ) → Shows s q (λ a.
 
 -- a frame's callbacks ran, and show what they do
 pub frame_shown : {E : Type 0} (r : Result Unit E) (how : Framed) (interval phases now now' : ℕ) (is_moment : ℕ → Bool) (before after : Pass) (first told : List Run) (p began p' : Sender) (root began_root root' given : ViewRoot)
-    → OnOk r (HasEndedWait how) → 0 < phases → first ≡ [] → FramedBy phases before after is_moment (Some first) (Some told) how → RecordsBy is_moment before after how → (HasEndedWait how → EndsLatest before after) → UnlessNoMemory how (FrameShows now' (ids_of told) began began_root p' root')
+    → OnOk r (HasEndedWait how) → 0 < phases → first ≡ [] → FramedBy phases before after is_moment (Some first) (Some told) how → RecordsBy is_moment before after how → EndsWait before after how → (HasEndedWait how → EndsLatest before after) → UnlessNoMemory how (FrameShows now' (ids_of told) began began_root p' root')
     → now' ≡ now → began ≡ p → began_root ≡ root → given ≡ root'
     → OnOk r ((ids : List ℕ) × RanFrame interval phases is_moment before after ids × EndsLatest before after × FrameShows now ids p root p' given)
-frame_shown (Ok u) how interval phases now now' is_moment before after first told p began p' root began_root root' given had some none framed records ends shows e f g h =
-    let ran = not_wanting how (RanFrame interval phases is_moment before after (ids_of told)) had (framed_ran interval phases is_moment before after told how some (subst (λ (l : List Run). FramedBy phases before after is_moment (Some l) (Some told) how) none framed) records) in
+frame_shown (Ok u) how interval phases now now' is_moment before after first told p began p' root began_root root' given had some none framed records waits ends shows e f g h =
+    let ran = not_wanting how (RanFrame interval phases is_moment before after (ids_of told)) had (framed_ran interval phases is_moment before after told how some (subst (λ (l : List Run). FramedBy phases before after is_moment (Some l) (Some told) how) none framed) records waits) in
     let shown = not_wanting how (FrameShows now' (ids_of told) began began_root p' root') had shows in (
       ids_of told,
       ran,
@@ -50,4 +50,4 @@ frame_shown (Ok u) how interval phases now now' is_moment before after first tol
       subst (λ (v : ViewRoot). FrameShows now (ids_of told) p root p' v) (sym h)
           (subst (λ (v : ViewRoot). FrameShows now (ids_of told) p v p' root') g (subst (λ (z : Sender). FrameShows now (ids_of told) z began_root p' root') f (subst (λ (n : ℕ). FrameShows n (ids_of told) began began_root p' root') e shown))),
     )
-frame_shown (Err x) how interval phases now now' is_moment before after first told p began p' root began_root root' given had some none framed records ends shows e f g h = tt
+frame_shown (Err x) how interval phases now now' is_moment before after first told p began p' root began_root root' given had some none framed records waits ends shows e f g h = tt

@@ -5,12 +5,13 @@ use Rattle.frame_phases.specs.State.{scheduled_at}
 use Rattle.frame_phases.specs.Pulses.{comes_after_if_any}
 use Rattle.choreographer.specs.declared.kept.Kept.{Kept}
 use Rattle.choreographer.specs.Steps.{known_by}
-use Rattle.choreographer.specs.Known.{Known as Pass, IsTurn}
+use Rattle.choreographer.specs.Known.{Known as Pass, IsTurn, SeesQuietly}
+use Rattle.choreographer.proofs.InTime.{later_quietly}
 use Rattle.choreographer.specs.Calls.{latest, GetsStamp, ComesAfter, DueBy, AwaitsBy, KnowsPulse, stamp_in}
 use Rattle.choreographer.specs.Done.{IsSamePass, BeginsByStamp, EndsWait, EndsWaitAt}
 use Rattle.dash_hall.specs.Kits.{FrameBadge, frame_badge_of}
 use Rattle.dash_hall.proofs.Badges.{frame_turn_badge}
-use Rattle.dash_loopers.specs.Played.{KeepsLatest, GetsLatest, ComesLater, HasLatest, EndsLatest}
+use Rattle.dash_loopers.specs.Played.{KeepsLatest, GetsLatest, ComesLater, HasLatest, EndsLatest, RunsInTime}
 use Rattle.choreographer.specs.Turn.{awaits_frame}
 use Rattle.choreographer.specs.declared.frame.Framed.{Framed}
 use Rattle.choreographer.specs.declared.frame.Framed.TheVariants.{Done, Elsewhere, Unscheduled, Backwards, NoMemory}
@@ -83,6 +84,16 @@ due_keeps_latest before after is_moment phase result (now, moment, (x, y, turn, 
     by_result : (b : Bool) → (if b then record x { frames = scheduled_at x.frames (known_by x now) } else x).stamp ≡ x.stamp
     by_result true = refl
     by_result false = refl
+
+-- one that saw postings and removals alone, and left what is to begin, began no frame
+pub still_in_time : (is_moment : ℕ → Bool) (before after : Pass) → KeepsLatest before after → SeesQuietly before after → RunsInTime is_moment before after None
+still_in_time is_moment before after keeps quiet t stamp waits only has up_to = (
+  later_quietly t before.view.seen after.view.seen (quiet has.key has.constants has.alone) up_to,
+  λ waiting over.
+      (let one : after.view.awaits ≡ 1 = (keeps stamp waits has).waits ∙ ap (λ (b : Bool). cond b 1 0) waiting in
+      let none : after.view.awaits ≡ 0 = over.waits in
+      absurd (omega (arith, one, none))),
+)
 
 -- ---- what is awaited by the looper
 

@@ -57,6 +57,7 @@ played_asked s l parts g r e asked = λ going text did a come. record {
         settled = st.settled;
         latest_is = turn_keeps_latest parts.frames g asked.0 asked.0 asked.1 refl refl a.stamp a.awaits st.latest_is;
         awaits_is = st.awaits_is;
+        in_time = λ is. absurd (let wrong : false ≡ true = is in cc);
         played = record { shown = st.played.shown; elsewhere = st.played.elsewhere; fired = st.played.fired; counts = st.played.counts };
       });
 }

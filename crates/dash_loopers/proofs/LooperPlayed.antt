@@ -1,7 +1,10 @@
 -- Where a looper stands as it begins, as a round of it begins and ends, and at its end.
-use Rattle.std.proofs.Common.{◌≡◌, ℕ, ◌<◌, ◌≤◌, ◌⊎◌, inl, inr, true, false, List, [], ◌∷◌, ◌+◌, map, length, get_or, replicate, Option, Some, None, refl, sym, ap, ◌∙◌, subst, arith}
+use Rattle.std.proofs.Common.{◌≡◌, ℕ, ◌<◌, ◌≤◌, ◌⊎◌, inl, inr, true, false, List, [], ◌∷◌, ◌+◌, map, length, get_or, replicate, Option, Some, None, refl, sym, ap, ◌∙◌, subst, arith, eq-eqb}
 use Rattle.std.specs.Prelude.{slice_index_or}
-use Rattle.std.specs.List.{insert, remove}
+use Rattle.std.specs.List.{insert, remove, filter_map}
+use Rattle.loop_model.specs.Base.{empty_base}
+use Rattle.loop_model.specs.Answers.{clock}
+use Rattle.choreographer.specs.Turn.{has_later}
 use Rattle.std.specs.Option.{IsSomeAnd}
 use Rattle.std.proofs.lemmas.List.{length-replicate}
 use Rattle.std.proofs.lemmas.List.Edits.{get_or-remove_below, get_or-remove_above, length-remove}
@@ -17,20 +20,20 @@ use Rattle.looper_run.specs.Holding.{Sender, Looping}
 use Rattle.looper_run.specs.Round.{UnlessWanting}
 use Rattle.looper_run.specs.Tests.{Passes, IsSameLooper}
 use Rattle.choreographer.specs.Known.{Known as Pass}
-use Rattle.run_model.specs.Planned.{entries_by, AreFor}
-use Rattle.run_model.specs.Loopers.{Looper, first_looper, Lead, IsSent}
+use Rattle.run_model.specs.Planned.{entries_by, AreFor, sender_count}
+use Rattle.run_model.specs.Loopers.{Looper, first_looper, Lead, IsSent, pulse_stamp, has_frames}
 use Rattle.run_model.specs.Parts.{sent_on, asks_to_run}
 use Rattle.dash_hall.specs.declared.hall.Hall.{Hall}
 use Rattle.dash_hall.specs.declared.kit.Kit.{Kit}
 use Rattle.dash_hall.specs.Kits.{IsHall, AreUnseen}
 use Rattle.dash_hall.specs.Growth.{own}
 use Rattle.dash_hall.specs.Hosts.{asks_of}
-use Rattle.run_model.specs.FrameRecords.{asks_in, as_told}
+use Rattle.run_model.specs.FrameRecords.{asks_in, as_told, nanos_of}
 use Rattle.dash_hall.proofs.FramePosts.{told_whole}
 use Rattle.dash_loopers.specs.declared.player.Parts.{Parts}
 use Rattle.dash_loopers.specs.declared.looper.StageLooper.{StageLooper}
 use Rattle.dash_loopers.specs.Players.{Owner}
-use Rattle.dash_loopers.specs.Loopers.{IsLooper, is_given_up}
+use Rattle.dash_loopers.specs.Loopers.{IsLooper, IsSoundOn, is_given_up}
 use Rattle.dash_loopers.specs.Played.{standing, fixed, fixed_by, IsBarrierOf, paint_of, calls_in, calls_of, IsPlayed, StandsBy, Stands, HasCome, HasComeBy, ComesTo, IsPlaying, HasPlayed, HasLeft, HasLatest}
 use Rattle.dash_loopers.proofs.OpenTimes.{alike_self}
 use Rattle.dash_loopers.proofs.LooperSeats.{its_place, at_other, within_others}
@@ -48,9 +51,9 @@ unseen_without xs n within unseen = λ j d near. by_order j d near (cases_lt j n
 -- a looper that has done nothing stands at the first state
 pub stands_first : (s : Script) (q k : ℕ) (seen : List Entry) (acts : List Act) (parts : Parts) → seen ≡ [] → acts ≡ []
     → map standing parts.root.gauges.items ≡ replicate (length s.gauges) (record { value = 0; target = 0; animating = false }) → map fixed parts.root.gauges.items ≡ map (fixed_by s q) s.gauges
-    → parts.root.barrier ≡ None → parts.root.painted.items ≡ [] → parts.root.edition ≡ s.edition → AreUnseen parts.others.items → parts.fired.items ≡ replicate (length s.rules) 0 → parts.root.pass.view.own ≡ [] → parts.root.pass.view.turns ≡ 0 → parts.frames.view.own ≡ [] → HasLatest parts.frames 0 false → parts.awaits ≡ false
+    → parts.root.barrier ≡ None → parts.root.painted.items ≡ [] → parts.root.edition ≡ s.edition → AreUnseen parts.others.items → parts.fired.items ≡ replicate (length s.rules) 0 → parts.root.pass.view.own ≡ [] → parts.root.pass.view.turns ≡ 0 → parts.frames.view.own ≡ [] → HasLatest parts.frames 0 false → parts.awaits ≡ false → parts.frames.view.seen ≡ []
     → Stands s q k seen acts parts (first_looper s)
-stands_first s q k seen acts parts none still gauges lines barrier painted edition unseen fired unasked untaken unrun unpulsed unawaited = record {
+stands_first s q k seen acts parts none still gauges lines barrier painted edition unseen fired unasked untaken unrun unpulsed unawaited unseen_frames = record {
   led = λ fs begins law. subst (λ (xs : List Act). Lead s q seen fs (first_looper s) xs (first_looper s)) (sym still) refl;
   place = omega arith;
   moments = λ is fs begins law. refl;
@@ -59,6 +62,10 @@ stands_first s q k seen acts parts none still gauges lines barrier painted editi
   settled = refl;
   latest_is = unpulsed;
   awaits_is = unawaited;
+  in_time = λ is sound. record {
+    up_to = ap (has_later (nanos_of (clock (empty_base (sender_count s)) seen))) unseen_frames;
+    pulses = ap (λ (xs : List Act). length (filter_map pulse_stamp xs)) still;
+  };
   played = subst (λ (es : List Entry). IsPlayed s q (calls_in k es) parts (first_looper s)) (sym none) (record {
     shown = record {
       calls = tt;
@@ -90,6 +97,7 @@ stands_free s q k es acts parts a st = record {
   settled = st.settled;
   latest_is = st.latest_is;
   awaits_is = st.awaits_is;
+  in_time = λ is. absurd (let wrong : false ≡ true = is in cc);
   played = st.played;
 }
 
@@ -139,6 +147,9 @@ left_by s hall l parts j kit is_hall is e posters frames journal a come = record
       (subst (λ (x : Journal). Lead s l.number l.looper.held.poster.view.seen fs (first_looper s) x.acts a) (sym journal)
       (st.led fs (subst (λ (ps : List Pass). IsPrefix (slice_index_or ps 0 p).view.seen fs) frames begins) law));
   moments = λ p fs begins law. st.moments refl fs (subst (λ (ps : List Pass). IsPrefix (slice_index_or ps 0 p).view.seen fs) frames begins) law;
+  pulses = λ d sound.
+      subst (λ (x : Journal). has_frames x.acts a ≡ true) (sym journal)
+      (eq-eqb _ _ (st.in_time refl (subst (λ (x : Sender). IsSoundOn s l.number x.view.seen) (mine d) sound)).pulses);
   whole = λ p fs begins law. st.whole fs (subst (λ (ps : List Pass). IsPrefix (slice_index_or ps 0 p).view.seen fs) frames begins) law;
   settled = st.settled;
   calls = λ d. subst (λ (x : Sender). AreFor IsSent [] (sent_on l.number a.sent) (calls_of x)) (sym (mine d))

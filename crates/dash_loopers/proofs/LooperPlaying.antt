@@ -1,4 +1,6 @@
 -- In a round a looper goes on from where it stood: what keeps that it has, and what a round leaves of it.
+use Rattle.choreographer.proofs.Quiet.{grows_self}
+use Rattle.dash_loopers.proofs.LatestPulses.{still_in_time}
 use Rattle.std.proofs.Common.{◌≡◌, ℕ, ◌≤◌, true, false, List, [], ◌∷◌, ◌++◌, Option, Some, None, refl, sym, ap, ◌∙◌, subst, arith, append_assoc}
 use Rattle.std.specs.Prelude.{◌==◌, Bool, Result, Ok, Err, is_ok, OnOk, is_some, not, ◌&&◌}
 use Rattle.std.specs.List.{AllByRecursion, Contains}
@@ -104,7 +106,7 @@ module _ (s : Script) (q now : ℕ) (began : StageLooper) where
       (let c = meets text a come in
       comes_on s q now a k began.looper.held.poster.view.seen past (e ∷ more) acts (acts' ++ Dispatch n time route ∷ []) parts parts' c (by_dispatch s q k n time time (λ x. x == nanos_of time) m past more e take acts acts' parts parts' here c.state c.state)
       (subst (λ (l : List Entry). Stands s q k l (acts' ++ Dispatch n time route ∷ []) parts' (by_dispatch s q k n time time (λ x. x == nanos_of time) m past more e take acts acts' parts parts' here c.state c.state)) (append_assoc past (e ∷ []) more)
-      (stands_dispatch s q k n time time (λ x. x == nanos_of time) m past more e take acts acts' parts parts' here c.state c.state route (λ is. refl) text post c.stands.settled refl c.stands))
+      (stands_dispatch s q k n time time (λ x. x == nanos_of time) m past more e take acts acts' parts parts' here c.state c.state route (λ is. (refl, refl)) text post c.stands.settled refl c.stands))
       (goes_looked q k (e ∷ more) now time e c.state _ (Contains-append_left (e ∷ []) more e (Contains-push [] e)) take.sender_is take.call (sends_dispatch s q k n time time (λ x. x == nanos_of time) m past more e take acts acts' parts parts' here c.state c.state)
       (posts_dispatch s q k n time time (λ x. x == nanos_of time) m past more e take acts acts' parts parts' here c.state c.state)
       (frames_dispatch s q k n time time (λ x. x == nanos_of time) m past more e take acts acts' parts parts' here c.state c.state)))))
@@ -120,7 +122,7 @@ module _ (s : Script) (q now : ℕ) (began : StageLooper) where
   pub delivers_none : (time : ℕ) (is_moment : ℕ → Bool) (m : PostData) (id : ℕ) (made : List Entry) (parts : Parts) (acts : List Act) → m.callback ≡ Some id → Delivers s q time is_moment m made made parts parts acts acts
   delivers_none time is_moment m id made parts acts callback = record {
     ids = [];
-    ran = record { frame = None; start = 0; started = refl; framed = λ fs begins law. (refl, refl, refl, refl); within = omega arith; grew = prefix_self parts.frames.view.seen; asks = sym (append-nil (asks_of parts.frames)); stamped = λ stamp waits has fs begins. refl };
+    ran = record { frame = None; start = 0; started = refl; framed = λ fs begins law. (refl, refl, refl, refl); within = omega arith; grew = prefix_self parts.frames.view.seen; asks = sym (append-nil (asks_of parts.frames)); stamped = λ stamp waits has fs begins. refl; in_time = still_in_time is_moment parts.frames parts.frames (λ stamp waits has. has) (λ c e named. grows_self parts.frames.view.seen) };
     starts = refl;
     awaited = refl;
     waits = waits_still q m parts parts quiet (λ stamp waits has. has) refl;

@@ -1,8 +1,11 @@
 -- Where a looper stands, as entries and acts are added: entries of others, its look that ends the queue, acts that cause
 -- nothing, a pulse, and a dispatch.
 use Rattle.std.proofs.Common.{◌≡◌, ℕ, ◌≤◌, Bool, true, false, List, [], ◌∷◌, ◌++◌, length, Option, Some, None, refl, sym, ap, ◌∙◌, subst, arith, append_assoc, eq-eqb}
-use Rattle.std.specs.Prelude.{◌==◌, ◌+◌, ◌||◌, not, is_some, is_none, map, nat_le, slice_index_or, ◌&&◌}
-use Rattle.std.specs.List.{AllByRecursion, list_all}
+use Rattle.std.specs.Prelude.{◌==◌, ◌+◌, ◌||◌, not, is_some, is_none, map, nat_le, slice_index_or, ◌&&◌, if◌then◌else◌}
+use Rattle.std.specs.List.{AllByRecursion, filter_map, list_all}
+use Rattle.std.proofs.lemmas.List.{length-append}
+use Rattle.std.proofs.lemmas.List.Elements.{filter_map-append}
+use Rattle.std.proofs.Math.Bool.{and-false}
 use Rattle.std.specs.Option.{option_map_or}
 use Rattle.std.proofs.lemmas.List.{append-nil, map-append}
 use Rattle.std.proofs.lemmas.Bool.Decides.{nat_tests}
@@ -13,7 +16,14 @@ use Rattle.loop_model.specs.declared.call.Call.TheVariants.{Next}
 use Rattle.loop_model.specs.declared.reply.Reply.TheVariants.{Dispatched}
 use Rattle.loop_model.specs.declared.entry.Entry.{Entry}
 use Rattle.loop_model.specs.declared.journal.Act.{Act}
-use Rattle.loop_model.specs.declared.journal.Act.TheVariants.{Dispatch, Vsync}
+use Rattle.loop_model.specs.declared.journal.Act.TheVariants.{Dispatch, Idle, Event, Vsync, Paint}
+use Rattle.loop_model.specs.declared.base.Base.{Base}
+use Rattle.loop_model.specs.Base.{empty_base}
+use Rattle.loop_model.specs.Answers.{clock}
+use Rattle.loop_model.specs.Legal.{IsTimely}
+use Rattle.loop_model.proofs.LegalLaws.{IsLegal-last}
+use Rattle.choreographer.proofs.InTime.{later_quietly, later_then}
+use Rattle.run_model.specs.Loopers.{pulse_stamp}
 use Rattle.loop_model.specs.declared.journal.Route.{Route}
 use Rattle.frame_phases.specs.declared.entry.FrameEntry.{FrameEntry}
 use Rattle.frame_phases.specs.Frames.{is_pulse}
@@ -25,12 +35,11 @@ use Rattle.looper_run.specs.Tests.{IsTake}
 use Rattle.loop_model.proofs.Prefixes.{prefix_trans, prefix_length}
 use Rattle.loop_model.specs.Posts.{post_at}
 use Rattle.run_model.specs.Control.{At}
-use Rattle.run_model.specs.Planned.{Makes, plain, token_in, AreFor}
+use Rattle.run_model.specs.Planned.{Makes, plain, token_in, AreFor, sender_count}
 use Rattle.run_model.specs.AskedSoFar.{tokens_in}
 use Rattle.run_model.specs.Loopers.{Looper, Sent, first_looper, starts_frame, delivered, and_takes, dispatched, after_act, MayDispatch, Lead, IsSent}
 use Rattle.run_model.specs.Parts.{and_starts, running, sent_on, is_run_then, is_whole, asks_to_run}
-use Rattle.run_model.specs.FrameRecords.{FrameAt, nanos_of, frame_ids, is_frame_from, has_stamp, place_after, frames_after, are_run_then, are_whole, FrameAsk}
-use Rattle.run_model.specs.FrameRecords.{Runs, as_told}
+use Rattle.run_model.specs.FrameRecords.{FrameAt, nanos_of, frame_ids, is_frame_from, has_stamp, place_after, frames_after, are_run_then, are_whole, FrameAsk, Runs, as_told}
 use Rattle.run_model.proofs.RunLaws.{AreFor-snoc, Lead-snoc, ArePaints, Lead-paints}
 use Rattle.run_model.proofs.Growth.{Lead-entries, post_at-grows}
 use Rattle.choreographer.specs.Calls.{latest}
@@ -38,8 +47,9 @@ use Rattle.dash_loopers.specs.declared.player.Parts.{Parts}
 use Rattle.dash_hall.specs.Growth.{own}
 use Rattle.dash_hall.specs.Hosts.{asks_of}
 use Rattle.dash_loopers.specs.Players.{PlaceWithout}
-use Rattle.dash_loopers.specs.Played.{IsRootOf, calls_in, IsPlayed, moments_of, asks_for, Delivers, pulse_acts, pulsed, HasLatest, Pulses, IsDueAt, StandsBy}
-use Rattle.dash_loopers.specs.PlayingLaws.{calls_more}
+use Rattle.dash_loopers.specs.Played.{IsRootOf, calls_in, IsPlayed, moments_of, asks_for, Delivers, pulse_acts, pulsed, HasLatest, IsUpTo, HasRunAll, Pulses, IsDueAt, StandsBy}
+use Rattle.dash_loopers.specs.Loopers.{IsSoundOn, setting_for}
+use Rattle.dash_loopers.specs.PlayingLaws.{calls_more, sound_front, clock_front, nanos_rise, runs_later, no_pulse}
 use Rattle.dash_loopers.proofs.LooperSteps.{AddsAt, delivers}
 use Rattle.dash_loopers.proofs.MoreCalls.{tokens_more, sent_here, sent_else, without_self}
 
@@ -73,6 +83,13 @@ module _ {lockstep : Bool} (s : Script) (q k : ℕ) where
     settled = painted p.stamp;
     latest_is = subst (λ (b : Bool). HasLatest parts'.frames (pulsed q p.stamp a).stamp b) (awaited p.stamp) (subst (λ (n : ℕ). HasLatest parts'.frames n (is_some p.stamp || a.awaits)) (came p.stamp) (p.next.got a.stamp a.awaits st.latest_is));
     awaits_is = p.next.waits ∙ (ap (λ (b : Bool). is_some p.stamp || b) st.awaits_is ∙ awaited p.stamp);
+    in_time = λ is sound.
+        let was = runs_later s q es more acts parts.frames a.awaits did.frames (st.in_time is) sound in
+        let has = st.latest_is in
+        record {
+          up_to = later_quietly (nanos_of (clock (empty_base (sender_count s)) (es ++ more))) parts.frames.view.seen parts'.frames.view.seen (p.next.quiet has.key has.constants has.alone) was.up_to;
+          pulses = ap (λ (l : List Act). length (filter_map pulse_stamp l)) p.told ∙ counted p.stamp (p.next.later a.stamp a.awaits has).1 was.pulses;
+        };
     played = p.plays text did st.played;
   }
     where
@@ -83,6 +100,15 @@ module _ {lockstep : Bool} (s : Script) (q k : ℕ) where
       awaited : (o : Option ℕ) → (is_some o || a.awaits) ≡ (pulsed q o a).awaits
       awaited None = refl
       awaited (Some stamp) = refl
+
+      counted : (o : Option ℕ) → (is_some o && a.awaits) ≡ false → length (filter_map pulse_stamp acts) ≡ length did.frames + (if a.awaits then 1 else 0)
+          → length (filter_map pulse_stamp (acts ++ pulse_acts o)) ≡ length (pulsed q o did).frames + (if (pulsed q o a).awaits then 1 else 0)
+      counted None over was = ap (λ (l : List Act). length (filter_map pulse_stamp l)) (append-nil acts) ∙ was
+      counted (Some stamp) over was =
+          let none = ap (λ (b : Bool). length did.frames + (if b then 1 else 0)) over in
+          let more_stamps = ap length (filter_map-append pulse_stamp acts (Vsync stamp ∷ [])) in
+          let long = length-append (filter_map pulse_stamp acts) (stamp ∷ []) in
+          omega (arith, was, none, more_stamps, long)
 
       placed : (o : Option ℕ) → (pulsed q o a).place ≡ a.place
       placed None = refl
@@ -117,6 +143,29 @@ run_then fs is_moment u place frame at all is = subst (λ o. list_all (λ n. n =
 
 run_whole : (phases : ℕ) (fs : List FrameEntry) (u place : ℕ) (frame : Option ℕ) → (is_none frame || length (moments_of fs frame) == phases + 1) ≡ true → frame ≡ Some place → is_whole phases fs (record { place = place; now = u }) ≡ true
 run_whole phases fs u place frame many is = subst (λ o. (is_none o || length (moments_of fs o) == phases + 1) ≡ true) is many
+
+-- a pulse whose message is taken has its frame: as many frames as pulses, but for one that is awaited
+one_framed : (n u : ℕ) (xs : List FrameAt) (frame : Option ℕ) (awaits starts : Bool) → n ≡ length xs + (if awaits then 1 else 0) → (not (is_some frame) || starts) ≡ true → (not (is_some frame) || awaits) ≡ true
+    → ((awaits && starts) ≡ true → is_some frame ≡ true) → n ≡ length (frames_after xs frame u) + (if awaits && not starts then 1 else 0)
+one_framed n u xs (Some place) true true is begun awaited runs = let l = length-append xs (record { place = place; now = u } ∷ []) in omega (arith, is, l)
+one_framed n u xs (Some place) true false is begun awaited runs = absurd (let wrong : false ≡ true = begun in cc)
+one_framed n u xs (Some place) false starts is begun awaited runs = absurd (let wrong : false ≡ true = awaited in cc)
+one_framed n u xs None true true is begun awaited runs = absurd (let wrong : false ≡ true = runs refl in cc)
+one_framed n u xs None true false is begun awaited runs = is
+one_framed n u xs None false starts is begun awaited runs = is
+
+-- paints are no pulses
+no_pulses : (ps : List Act) → ArePaints ps → filter_map pulse_stamp ps ≡ []
+no_pulses [] are = refl
+no_pulses (Paint g v ∷ ps) are = no_pulses ps are
+no_pulses (Dispatch n now route ∷ ps) are = absurd are
+no_pulses (Idle i k ∷ ps) are = absurd are
+no_pulses (Event f e m ∷ ps) are = absurd are
+no_pulses (Vsync v ∷ ps) are = absurd are
+
+paints_no_pulse : (acts ps : List Act) → ArePaints ps → length (filter_map pulse_stamp (acts ++ ps)) ≡ length (filter_map pulse_stamp acts)
+paints_no_pulse acts ps are =
+    ap length (filter_map-append pulse_stamp acts ps ∙ (ap (λ l. filter_map pulse_stamp acts ++ l) (no_pulses ps are) ∙ append-nil (filter_map pulse_stamp acts)))
 
 -- it was asked for as it is told in the mode
 ran_told : (lockstep : Bool) (is_moment : ℕ → Bool) (u start : ℕ) (xs : List FrameAt) (frame : Option ℕ) → (lockstep ≡ true → is_moment ≡ (λ n. n == nanos_of u)) → (is_none frame || is_moment start) ≡ true
@@ -233,7 +282,7 @@ module _ (s : Script) (q k n now u : ℕ) (is_moment : ℕ → Bool) (m : PostDa
       by_frame None is = ([], is ∙ sym (append-nil a.frames), tt)
       by_frame (Some place) is = (record { place = place; now = now } ∷ [], is, (refl, tt))
 
-  pub stands_dispatch : {lockstep : Bool} (route : Route) → (lockstep ≡ true → is_moment ≡ (λ n. n == nanos_of u)) → HasText s → post_at es n ≡ Some m → did.painted ≡ [] → (delivered s q u d.ids m (taken q n now u d.ran.frame m did)).painted ≡ (delivered s q now d.ids m (taken q n now now d.ran.frame m a)).painted
+  pub stands_dispatch : {lockstep : Bool} (route : Route) → (lockstep ≡ true → (is_moment ≡ (λ n. n == nanos_of u)) × (u ≡ now)) → HasText s → post_at es n ≡ Some m → did.painted ≡ [] → (delivered s q u d.ids m (taken q n now u d.ran.frame m did)).painted ≡ (delivered s q now d.ids m (taken q n now now d.ran.frame m a)).painted
       → StandsBy lockstep s q k es acts parts did a → StandsBy lockstep s q k ((es ++ e ∷ []) ++ more) (acts' ++ Dispatch n now route ∷ []) parts' by_reading by_dispatch
   stands_dispatch {lockstep} route at text post still alike st = record {
     led = λ fs begins law.
@@ -246,7 +295,7 @@ module _ (s : Script) (q k n now u : ℕ) (is_moment : ℕ → Bool) (m : PostDa
     moments = λ is fs begins law.
         ap (are_run_then fs) adds_read.frames
         ∙ one_more (is_run_then fs) did.frames d.ran.frame u (st.moments is fs (prefix_trans parts.frames.view.seen parts'.frames.view.seen fs d.ran.grew begins) law)
-        (λ place. run_then fs is_moment u place d.ran.frame (at is) (d.ran.framed fs begins law).2);
+        (λ place. run_then fs is_moment u place d.ran.frame (at is).0 (d.ran.framed fs begins law).2);
     whole = λ fs begins law.
         ap (are_whole (phase_count s.edition) fs) adds_read.frames
         ∙ one_more (is_whole (phase_count s.edition) fs) did.frames d.ran.frame u (st.whole fs (prefix_trans parts.frames.view.seen parts'.frames.view.seen fs d.ran.grew begins) law)
@@ -255,11 +304,12 @@ module _ (s : Script) (q k n now u : ℕ) (is_moment : ℕ → Bool) (m : PostDa
         ∙ (map-append (as_told lockstep) (asks_of parts.frames) (asks_for d.ran.frame d.ran.start)
         ∙ (ap (λ (l : List FrameAsk). l ++ map (as_told lockstep) (asks_for d.ran.frame d.ran.start)) st.ran
         ∙ (sym (map-append (as_told lockstep) (asks_to_run did.frames) (asks_for d.ran.frame d.ran.start))
-        ∙ (ran_told lockstep is_moment u d.ran.start did.frames d.ran.frame at d.ran.started
+        ∙ (ran_told lockstep is_moment u d.ran.start did.frames d.ran.frame (λ is. (at is).0) d.ran.started
         ∙ ap (λ (l : List FrameAt). map (as_told lockstep) (asks_to_run l)) (sym adds_read.frames)))));
     settled = refl;
-    latest_is = subst (λ (b : Bool). HasLatest parts'.frames by_dispatch.stamp b) awaited (subst (λ (n : ℕ). HasLatest parts'.frames n parts'.awaits) (sym adds.stamp) (d.waits.latest a.stamp (subst (HasLatest parts.frames a.stamp) (sym st.awaits_is) st.latest_is)));
+    latest_is = subst (λ (b : Bool). HasLatest parts'.frames by_dispatch.stamp b) awaited (subst (λ (n : ℕ). HasLatest parts'.frames n parts'.awaits) (sym adds.stamp) known);
     awaits_is = awaited;
+    in_time = runs;
     played = done.0;
   }
     where
@@ -268,6 +318,32 @@ module _ (s : Script) (q k n now u : ℕ) (is_moment : ℕ → Bool) (m : PostDa
 
       awaited : parts'.awaits ≡ by_dispatch.awaits
       awaited = d.waits.waits ∙ (ap (λ (b : Bool). b && not (starts_frame q m)) st.awaits_is ∙ sym adds.awaits)
+
+      known : HasLatest parts'.frames a.stamp parts'.awaits
+      known = d.waits.latest a.stamp (subst (HasLatest parts.frames a.stamp) (sym st.awaits_is) st.latest_is)
+
+      -- in lockstep a frame begins at the queue's time, which is no earlier than all that the pass has seen
+      runs : lockstep ≡ true → IsSoundOn s q ((es ++ e ∷ []) ++ more) → HasRunAll s ((es ++ e ∷ []) ++ more) (acts' ++ Dispatch n now route ∷ []) parts'.frames by_dispatch.awaits by_reading.frames
+      runs is sound =
+          let b : Base = empty_base (sender_count s) in
+          let once : IsSoundOn s q (es ++ e ∷ []) = sound_front s q (es ++ e ∷ []) more sound in
+          let was = st.in_time is (sound_front s q es (e ∷ []) once) in
+          let timed : now ≡ clock b es = subst (IsTimely true (clock b es)) take.call (IsLegal-last (setting_for s q) b es e once.legal).timely in
+          let at_once : u ≡ clock b es = (at is).1 ∙ timed in
+          let here = d.ran.in_time (nanos_of u) a.stamp a.awaits (λ m passes. eqb-true m (nanos_of u) (subst (λ (f : ℕ → Bool). f m ≡ true) (at is).0 passes)) st.latest_is
+          (subst (λ (t : ℕ). IsUpTo (nanos_of t) parts.frames) (sym at_once) was.up_to) in
+          let early = clock_front b es (e ∷ []) in
+          let late = clock_front b (es ++ e ∷ []) more in
+          let begins : (a.awaits && starts_frame q m) ≡ true → is_some d.ran.frame ≡ true = λ both. (let p = and_parts a.awaits (starts_frame q m) both in
+          let over : parts'.awaits ≡ false = d.waits.waits ∙ (ap (λ (t : Bool). parts.awaits && not t) p.1 ∙ and-false parts.awaits) in
+          here.1 p.0 (subst (HasLatest parts'.frames a.stamp) over known)) in
+          let framed = one_framed (length (filter_map pulse_stamp acts)) u did.frames d.ran.frame a.awaits (starts_frame q m) was.pulses d.starts (ap (λ (t : Bool). not (is_some d.ran.frame) || t) (sym st.awaits_is) ∙ d.awaited) begins in
+          record {
+            up_to = later_then (nanos_of u) (nanos_of (clock b ((es ++ e ∷ []) ++ more))) parts'.frames.view.seen (nanos_rise u (clock b ((es ++ e ∷ []) ++ more)) (omega (arith, at_once, early, late))) here.0;
+            pulses = no_pulse acts' (Dispatch n now route) refl
+                ∙ (ap (λ (l : List Act). length (filter_map pulse_stamp l)) done.1 ∙ (paints_no_pulse acts _ (adds_read.paints tt)
+                ∙ (framed ∙ (λ i. length (sym adds_read.frames i) + (if sym adds.awaits i then 1 else 0)))));
+          }
 
       found : post_at es n ≡ Some m
       found = post

@@ -23,7 +23,8 @@ use Rattle.choreographer.specs.declared.host.HostSent.{HostSent}
 use Rattle.choreographer.specs.declared.host.HostSent.TheVariants as host
 use Rattle.choreographer.specs.declared.hosted.Pulse.{Pulse}
 use Rattle.choreographer.specs.Host.{sent_by}
-use Rattle.choreographer.specs.Known.{Known as Pass}
+use Rattle.choreographer.specs.Known.{Known as Pass, SeesQuietly}
+use Rattle.choreographer.proofs.Quiet.{grows_self}
 use Rattle.choreographer.specs.Calls.{PulsedBy, stamp_in}
 use Rattle.loop_model.proofs.Prefixes.{prefix_self}
 use Rattle.frame_phases.specs.State.{delivered as delivered_at}
@@ -41,9 +42,10 @@ use Rattle.choreographer.proofs.Recorded.{pulse_records}
 use Rattle.dash_loopers.specs.declared.view_root.Painted.{Painted}
 use Rattle.dash_loopers.specs.declared.view_root.ViewRoot.{ViewRoot}
 use Rattle.dash_loopers.specs.declared.player.Parts.{Parts}
-use Rattle.dash_loopers.specs.Played.{standing, fixed, IsBarrierOf, IsFrameBy, calls_of, IsShown, IsPlayed, Shows, Plays, RanFrame, Delivers, DeliversPulse, Pulses, pulsed, paint_of, KeepsLatest, IsStampedBy, IsNextPulse, EndsLatest, HasLatest, WaitsFor}
+use Rattle.dash_loopers.specs.Played.{standing, fixed, IsBarrierOf, IsFrameBy, calls_of, IsShown, IsPlayed, Shows, Plays, RanFrame, Delivers, DeliversPulse, Pulses, pulsed, paint_of, KeepsLatest, IsStampedBy, IsNextPulse, EndsLatest, HasLatest, WaitsFor, RunsInTime}
 use Rattle.dash_hall.proofs.FramePosts.{accepted, refused, told_one, told_none}
 use Rattle.dash_loopers.proofs.FrameIds.{turn_grew}
+use Rattle.dash_loopers.proofs.LatestPulses.{still_in_time}
 use Rattle.dash_loopers.proofs.FrameSteps.{FrameShows}
 use Rattle.dash_loopers.proofs.MoreCalls.{calls_same, sent_else, without_self, played_call}
 
@@ -346,6 +348,7 @@ frame_delivered s q now is_moment m made made' parts mid parts' acts acts0 acts'
     grew = subst (λ (f : Pass). IsPrefix parts.frames.view.seen f.view.seen) (sym frames) ran.grew;
     asks = ap asks_of frames ∙ ran.asks;
     stamped = λ stamp waits has. subst (λ (f : Pass). IsStampedBy f ran.frame stamp) (sym frames) (ran.stamped stamp waits has);
+    in_time = subst (λ (f : Pass). RunsInTime is_moment parts.frames f ran.frame) (sym frames) ran.in_time;
   };
   starts = ap (λ (t : Bool). not (is_some ran.frame) || t) starts ∙ or-true (not (is_some ran.frame));
   awaited = ap (λ (t : Bool). not (is_some ran.frame) || t) awaited ∙ or-true (not (is_some ran.frame));
@@ -381,11 +384,11 @@ frame_delivered s q now is_moment m made made' parts mid parts' acts acts0 acts'
 }
 
 -- a message that begins no frame and paints nothing
-pub step_delivered : (s : Script) (q now : ℕ) (is_moment : ℕ → Bool) (m : PostData) (made made' : List Entry) (parts parts' : Parts) (acts acts' : List Act) (step : Looper → Looper) → IsPrefix parts.frames.view.seen parts'.frames.view.seen → asks_of parts'.frames ≡ asks_of parts.frames → WaitsFor q m parts parts'
+pub step_delivered : (s : Script) (q now : ℕ) (is_moment : ℕ → Bool) (m : PostData) (made made' : List Entry) (parts parts' : Parts) (acts acts' : List Act) (step : Looper → Looper) → IsPrefix parts.frames.view.seen parts'.frames.view.seen → asks_of parts'.frames ≡ asks_of parts.frames → WaitsFor q m parts parts' → KeepsLatest parts.frames parts'.frames → SeesQuietly parts.frames parts'.frames
     → ((a : Looper) → delivered s q now [] m a ≡ step a) → ((a : Looper) → (step a).painted ≡ a.painted) → Plays s q step made parts made' parts' → acts' ≡ acts → Delivers s q now is_moment m made made' parts parts' acts acts'
-step_delivered s q now is_moment m made made' parts parts' acts acts' step grew asks waits is_step still plays same = record {
+step_delivered s q now is_moment m made made' parts parts' acts acts' step grew asks waits keeps quiet is_step still plays same = record {
   ids = [];
-  ran = record { frame = None; start = 0; started = refl; framed = λ fs begins is. (refl, refl, refl, refl); within = omega arith; grew = grew; asks = asks ∙ sym (append-nil (asks_of parts.frames)); stamped = λ stamp w has fs begins. refl };
+  ran = record { frame = None; start = 0; started = refl; framed = λ fs begins is. (refl, refl, refl, refl); within = omega arith; grew = grew; asks = asks ∙ sym (append-nil (asks_of parts.frames)); stamped = λ stamp w has fs begins. refl; in_time = still_in_time is_moment parts.frames parts'.frames keeps quiet };
   starts = refl;
   awaited = refl;
   waits = waits;
@@ -414,7 +417,13 @@ waits_still q m parts parts' isnt keeps same = record {
 pub still_delivered : (s : Script) (q now : ℕ) (is_moment : ℕ → Bool) (m : PostData) (made made' : List Entry) (parts parts' : Parts) (acts acts' : List Act) (step : Looper → Looper) → parts'.frames ≡ parts.frames → parts'.awaits ≡ parts.awaits → (parts.awaits && starts_frame q m) ≡ false
     → ((a : Looper) → delivered s q now [] m a ≡ step a) → ((a : Looper) → (step a).painted ≡ a.painted) → Plays s q step made parts made' parts' → acts' ≡ acts → Delivers s q now is_moment m made made' parts parts' acts acts'
 still_delivered s q now is_moment m made made' parts parts' acts acts' step frames awaits isnt is_step still plays same =
-    step_delivered s q now is_moment m made made' parts parts' acts acts' step (subst (λ (f : Pass). IsPrefix parts.frames.view.seen f.view.seen) (sym frames) (prefix_self parts.frames.view.seen)) (ap asks_of frames) (waits_still q m parts parts' isnt (subst (KeepsLatest parts.frames) (sym frames) (λ stamp w has. has)) awaits) is_step still plays same
+    step_delivered s q now is_moment m made made' parts parts' acts acts' step (subst (λ (f : Pass). IsPrefix parts.frames.view.seen f.view.seen) (sym frames) (prefix_self parts.frames.view.seen)) (ap asks_of frames) (waits_still q m parts parts' isnt keeps awaits) keeps quiet is_step still plays same
+  where
+    keeps : KeepsLatest parts.frames parts'.frames
+    keeps = subst (KeepsLatest parts.frames) (sym frames) (λ stamp w has. has)
+
+    quiet : SeesQuietly parts.frames parts'.frames
+    quiet = subst (SeesQuietly parts.frames) (sym frames) (λ c e named. grows_self parts.frames.view.seen)
 
 -- one paint more was told
 pub painted_more : (acts0 acts : List Act) (ps : List Painted) (i : ℕ) (d : Painted) → i < length ps → acts ≡ acts0 ++ map paint_of (take i ps) → acts ++ paint_of (get_or ps i d) ∷ [] ≡ acts0 ++ map paint_of (take (i + 1) ps)

@@ -3,13 +3,15 @@
 use Rattle.std.specs.Prelude.{◌≡◌, ◌≢◌, ◌<◌, ◌≤◌, ◌==◌, ◌||◌, ◌&&◌, ℕ, Bool, true, false, not, cond, All, List, [], ◌∷◌, ◌++◌, map, length, slice_get}
 use Rattle.std.specs.Prelude.{slice_set}
 use Rattle.std.specs.Prelude.{slice_index_or, Option, Some, None, is_some, is_none, IsSomeAnd, if◌then◌else◌, ◌+◌, ◌/◌}
-use Rattle.std.specs.List.{Contains, list_all}
+use Rattle.std.specs.List.{Contains, filter_map, list_all}
 use Rattle.std.specs.Option.{option_map_or}
 use mathlib.Core.List.{IsPrefix}
 use Rattle.loop_model.specs.declared.post.Post.{Post as PostData}
 use Rattle.loop_model.specs.declared.call.Call.{Call}
 use Rattle.loop_model.specs.declared.call.Call.TheVariants.{Post, Next}
 use Rattle.loop_model.specs.declared.entry.Entry.{Entry}
+use Rattle.loop_model.specs.Base.{empty_base}
+use Rattle.loop_model.specs.Answers.{clock}
 use Rattle.loop_model.specs.declared.journal.Act.{Act}
 use Rattle.loop_model.specs.declared.journal.Act.TheVariants.{Vsync, Paint}
 use Rattle.loop_model.specs.declared.journal.Journal.{Journal}
@@ -23,7 +25,8 @@ use Rattle.dash_script.specs.Causes.{phase_count}
 use Rattle.dash_script.specs.Reading.{HasText}
 use Rattle.looper_run.specs.Holding.{Sender}
 use Rattle.choreographer.specs.declared.view.Constants.{Constants}
-use Rattle.choreographer.specs.Known.{Known as Pass}
+use Rattle.choreographer.specs.Known.{Known as Pass, SeesQuietly}
+use Rattle.choreographer.specs.Turn.{has_later}
 use Rattle.choreographer.specs.Calls.{latest}
 use Rattle.choreographer.specs.declared.host.HostSent.TheVariants as host
 use Rattle.choreographer.specs.declared.hosted.Pulse.{Pulse}
@@ -31,10 +34,9 @@ use Rattle.choreographer.specs.Client.{Run}
 use Rattle.run_model.specs.Planned.{Makes, AreFor, entries_by, looper_of, frame_message, frame_due}
 use Rattle.run_model.specs.AskedSoFar.{tokens_in}
 use Rattle.run_model.specs.Control.{Timing, At, InBlock, NotBefore}
-use Rattle.run_model.specs.Loopers.{Looper, Gauge, Sent, first_looper, starts_frame, delivered, fires, reaction, Lead, IsSent}
+use Rattle.run_model.specs.Loopers.{Looper, Sent, first_looper, starts_frame, delivered, fires, reaction, Lead, IsSent, pulse_stamp, has_frames}
 use Rattle.run_model.specs.Parts.{sent_on, asks_to_run}
-use Rattle.run_model.specs.FrameRecords.{millis_up, FrameAt, frame_ids, is_frame_from, has_stamp, frame_moments, place_after, are_run_then, are_whole, FrameAsk}
-use Rattle.run_model.specs.FrameRecords.{Posts, Removes, Runs, as_told}
+use Rattle.run_model.specs.FrameRecords.{millis_up, FrameAt, frame_ids, is_frame_from, has_stamp, frame_moments, place_after, are_run_then, are_whole, FrameAsk, Posts, Removes, Runs, as_told}
 use Rattle.dash_hall.specs.declared.kit.Kit.{Kit}
 use Rattle.dash_loopers.specs.declared.view_root.Gauge.{Gauge as ViewGauge}
 use Rattle.dash_loopers.specs.declared.view_root.Painted.{Painted}
@@ -44,7 +46,7 @@ use Rattle.dash_loopers.specs.declared.looper.StageLooper.{StageLooper}
 use Rattle.dash_hall.specs.Growth.{own}
 use Rattle.dash_hall.specs.Hosts.{asks_of}
 use Rattle.dash_loopers.specs.Players.{PlaceWithout}
-use Rattle.dash_loopers.specs.Loopers.{is_given_up, calls_among}
+use Rattle.dash_loopers.specs.Loopers.{is_given_up, calls_among, IsSoundOn}
 pub use Rattle.dash_loopers.specs.Loopers.{is_disposal}
 
 -- ---- how a view root stands
@@ -181,12 +183,23 @@ abbrev pub ComesLater : Pass → Option ℕ → Type 0
 ComesLater before came = (stamp : ℕ) (awaits : Bool) → HasLatest before stamp awaits
     → (comes_after_if_any stamp came ≡ true) × ((is_some came && awaits) ≡ false)
 
+-- no moment of what the pass has seen is later than this one
+abbrev pub IsUpTo : ℕ → Pass → Type 0
+IsUpTo t p = has_later t p.view.seen ≡ false
+
+-- where the test is of this moment alone, and the pass that alone delivers pulses had seen no later one, it has seen none; and if a frame was to begin and is to
+-- begin no more, one began
+abbrev pub RunsInTime : (ℕ → Bool) → Pass → Pass → Option ℕ → Type 0
+RunsInTime is_moment before after frame = (t stamp : ℕ) (awaits : Bool) → ((n : ℕ) → is_moment n ≡ true → n ≡ t) → HasLatest before stamp awaits → IsUpTo t before
+    → IsUpTo t after × (awaits ≡ true → HasLatest after stamp false → is_some frame ≡ true)
+
 -- a pulse of this period came, later than the latest, whose frame was not to begin any more, and is the latest now; or none came. The looper awaits its frame
 -- where one came, and else as before
 pub record IsNextPulse (period : ℕ) (before after : Parts) (came : Option ℕ) : Type 0 where
   pub is_pulse : is_pulse_if_any period came ≡ true
   pub later : ComesLater before.frames came
   pub got : GetsLatest before.frames after.frames came
+  pub quiet : SeesQuietly before.frames after.frames
   pub waits : after.awaits ≡ (is_some came || before.awaits)
 
 -- by whatever the frame record comes to, a frame that began has this stamp
@@ -216,6 +229,7 @@ pub record RanFrame (interval phases : ℕ) (is_moment : ℕ → Bool) (before a
   pub grew : IsPrefix before.view.seen after.view.seen
   pub asks : asks_of after ≡ asks_of before ++ asks_for frame start
   pub stamped : (stamp : ℕ) (awaits : Bool) → HasLatest before stamp awaits → IsStampedBy after frame stamp
+  pub in_time : RunsInTime is_moment before after frame
 
 -- where the message starts a frame, no frame of a pulse is to begin any more; else all is as before
 pub record WaitsFor (q : ℕ) (m : PostData) (parts parts' : Parts) : Type 0 where
@@ -297,9 +311,15 @@ pub record AreAlike (a b : Looper) : Type 0 where
 
 -- ---- between two acts
 
+-- in a queue's history in lockstep: no moment of what the pass has seen is later than the queue's time, and each pulse of these acts whose message is taken has
+-- its frame
+pub record HasRunAll (s : Script) (es : List Entry) (acts : List Act) (p : Pass) (awaits : Bool) (frames : List FrameAt) : Type 0 where
+  pub up_to : IsUpTo (nanos_of (clock (empty_base (sender_count s)) es)) p
+  pub pulses : length (filter_map pulse_stamp acts) ≡ length frames + (if awaits then 1 else 0)
+
 -- the looper's acts lead to the one state, by whatever its frame record comes to, and all that the other state says is so: each frame that it ran took all
 -- phases, in lockstep at its time, at which it started, and its own pass asked for these frames, as it is told in the mode, in order and for nothing else.
--- The latest pulse of its own pass is that of the acts, and its frame is to begin just where they say so
+-- The latest pulse of its own pass is that of the acts, and its frame is to begin just where they say so; in lockstep each pulse had its frame
 pub record StandsBy (lockstep : Bool) (s : Script) (q sender : ℕ) (es : List Entry) (acts : List Act) (parts : Parts) (did a : Looper) : Type 0 where
   pub led : (fs : List FrameEntry) → IsPrefix parts.frames.view.seen fs → lawful s.period (phase_count s.edition) fs ≡ true
       → Lead s q es fs (first_looper s) acts a
@@ -312,6 +332,7 @@ pub record StandsBy (lockstep : Bool) (s : Script) (q sender : ℕ) (es : List E
   pub settled : a.painted ≡ []
   pub latest_is : HasLatest parts.frames a.stamp a.awaits
   pub awaits_is : parts.awaits ≡ a.awaits
+  pub in_time : lockstep ≡ true → IsSoundOn s q es → HasRunAll s es acts parts.frames a.awaits did.frames
   pub played : IsPlayed s q (calls_in sender es) parts did
 
 -- in lockstep, of one state: each frame that its dispatches ran started at the time of its dispatch
@@ -406,6 +427,7 @@ pub record HasLeft (s : Script) (q : ℕ) (j : Journal) (kit : Kit) (a : Looper)
       → Lead s q (slice_index_or kit.posters.items q d).view.seen fs (first_looper s) j.acts a
   pub moments : (p : Pass) (fs : List FrameEntry) → IsPrefix (slice_index_or kit.frames.items 0 p).view.seen fs
       → lawful s.period (phase_count s.edition) fs ≡ true → are_run_then fs a.frames ≡ true
+  pub pulses : (d : Sender) → IsSoundOn s q (slice_index_or kit.posters.items q d).view.seen → has_frames j.acts a ≡ true
   pub whole : (p : Pass) (fs : List FrameEntry) → IsPrefix (slice_index_or kit.frames.items 0 p).view.seen fs
       → lawful s.period (phase_count s.edition) fs ≡ true → are_whole (phase_count s.edition) fs a.frames ≡ true
   pub settled : a.painted ≡ []

@@ -1,9 +1,17 @@
 -- What a looper has come to stays so by what it doesn't do itself: another sender's entry, its look that ends the queue, an idle
 -- handler or an event. These are the laws of its code, with their proofs.
-use Rattle.std.proofs.Common.{◌≡◌, ℕ, Bool, true, false, List, [], ◌∷◌, ◌++◌, None, refl, sym, ap, ◌∙◌, subst, append_assoc, eq-eqb, ne_eqb}
-use Rattle.std.specs.Prelude.{◌==◌, not, filter}
+use Rattle.std.proofs.Common.{◌≡◌, ℕ, ◌≤◌, max, Bool, true, false, List, [], ◌∷◌, ◌++◌, length, None, refl, sym, ap, ◌∙◌, subst, arith, append_assoc, eq-eqb, ne_eqb}
+use Rattle.std.specs.Prelude.{◌==◌, not, filter, fold}
+use Rattle.std.specs.List.{filter_map, cons_option}
 use Rattle.std.proofs.lemmas.List.{append-nil}
-use Rattle.std.proofs.lemmas.List.Elements.{All-append, All-nil, Contains-append_left, Contains-append_right, filter-append}
+use Rattle.std.proofs.lemmas.List.Elements.{All-append, All-nil, Contains-append_left, Contains-append_right, filter-append, filter_map-append}
+use Rattle.std.proofs.lemmas.List.Sums.{fold-append}
+use Rattle.loop_model.specs.declared.base.Base.{Base}
+use Rattle.loop_model.specs.Base.{empty_base}
+use Rattle.loop_model.specs.Answers.{clock}
+use Rattle.loop_model.specs.Entries.{moment_of}
+use Rattle.loop_model.proofs.LegalLaws.{IsLegal-front}
+use Rattle.loop_model.proofs.NumberLaws.{AreNumbered-front}
 use Rattle.loop_model.specs.declared.call.Call.TheVariants.{Next}
 use Rattle.loop_model.specs.declared.reply.Reply.TheVariants.{Disposed}
 use Rattle.loop_model.specs.declared.entry.Entry.{Entry}
@@ -14,13 +22,15 @@ use Rattle.looper_run.specs.Acts.{IsQuiet}
 use Rattle.run_model.specs.Planned.{entries_by}
 use Rattle.run_model.specs.Control.{Timing, At, InBlock, NotBefore}
 use Rattle.run_model.specs.FrameRecords.{FrameAt}
-use Rattle.run_model.specs.Loopers.{Looper, first_looper, after_act}
+use Rattle.run_model.specs.Loopers.{Looper, first_looper, after_act, pulse_stamp}
+use Rattle.choreographer.specs.Known.{Known as Pass}
+use Rattle.choreographer.proofs.InTime.{later_then}
 use Rattle.run_model.proofs.RunLaws.{Lead-snoc}
 use Rattle.run_model.proofs.Growth.{Lead-entries}
 use Rattle.dash_loopers.specs.declared.player.Parts.{Parts}
 use Rattle.dash_loopers.specs.declared.looper.StageLooper.{StageLooper}
-use Rattle.dash_loopers.specs.Played.{is_disposal, calls_in, IsPlayed, StandsBy, Stands, IsTimedBy, HasLooked, IsPostedBy, GoesOnTo, ComesTo, IsPlaying}
-use Rattle.dash_loopers.specs.Played.{IsPlayingBy}
+use Rattle.dash_loopers.specs.Played.{calls_in, IsPlayed, StandsBy, Stands, IsTimedBy, HasLooked, IsPostedBy, GoesOnTo, ComesTo, IsPlaying, IsPlayingBy, HasRunAll}
+use Rattle.dash_loopers.specs.Loopers.{IsSoundOn, setting_for}
 
 -- ---- the calls of a sender, as entries are added
 
@@ -44,6 +54,46 @@ calls_disposed k es e now is call reply =
     let mine : (e.sender == k) ≡ true = eq-eqb e.sender k is in
     none_more k es (e ∷ []) (rw (mine, call, reply) refl)
 
+-- ---- what was run in time, as entries and acts are added
+
+-- a sound history's beginning is sound
+pub sound_front : (s : Script) (q : ℕ) (es more : List Entry) → IsSoundOn s q (es ++ more) → IsSoundOn s q es
+sound_front s q es more sound = record {
+  legal = IsLegal-front (setting_for s q) (empty_base (sender_count s)) es more sound.legal;
+  numbered = AreNumbered-front (setting_for s q) (empty_base (sender_count s)) es more sound.numbered;
+}
+
+-- its time is no later than that of the whole
+most : (t : ℕ) (es : List Entry) → t ≤ fold (λ time (e : Entry). max time (moment_of e.call)) t es
+most t [] = omega arith
+most t (e ∷ es) = let rest = most (max t (moment_of e.call)) es in omega (arith, rest)
+
+pub clock_front : (b : Base) (es more : List Entry) → clock b es ≤ clock b (es ++ more)
+unfolding clock
+clock_front b es more =
+    let whole = fold-append (λ time (e : Entry). max time (moment_of e.call)) b.time es more in
+    let rest = most (fold (λ time (e : Entry). max time (moment_of e.call)) b.time es) more in
+    omega (arith, whole, rest)
+
+pub nanos_rise : (a b : ℕ) → a ≤ b → nanos_of a ≤ nanos_of b
+nanos_rise a b le = omega (arith, le)
+
+-- more entries
+pub runs_later : (s : Script) (q : ℕ) (es more : List Entry) (acts : List Act) (p : Pass) (awaits : Bool) (frames : List FrameAt) → (IsSoundOn s q es → HasRunAll s es acts p awaits frames)
+    → IsSoundOn s q (es ++ more) → HasRunAll s (es ++ more) acts p awaits frames
+runs_later s q es more acts p awaits frames ran sound =
+    let was = ran (sound_front s q es more sound) in
+    let b : Base = empty_base (sender_count s) in
+    record {
+      up_to = later_then (nanos_of (clock b es)) (nanos_of (clock b (es ++ more))) p.view.seen (nanos_rise (clock b es) (clock b (es ++ more)) (clock_front b es more)) was.up_to;
+      pulses = was.pulses;
+    }
+
+-- an act that is no pulse
+pub no_pulse : (acts : List Act) (x : Act) → pulse_stamp x ≡ None → length (filter_map pulse_stamp (acts ++ x ∷ [])) ≡ length (filter_map pulse_stamp acts)
+no_pulse acts x none =
+    ap length (filter_map-append pulse_stamp acts (x ∷ []) ∙ (ap (λ o. filter_map pulse_stamp acts ++ cons_option o []) none ∙ append-nil (filter_map pulse_stamp acts)))
+
 -- ---- where it stands, as entries and acts are added
 
 module _ {lockstep : Bool} (s : Script) (q k : ℕ) where
@@ -59,6 +109,7 @@ module _ {lockstep : Bool} (s : Script) (q k : ℕ) where
     settled = st.settled;
     latest_is = st.latest_is;
     awaits_is = st.awaits_is;
+    in_time = λ is sound. runs_later s q es more acts parts.frames a.awaits did.frames (st.in_time is) sound;
     played = subst (λ l. IsPlayed s q l parts did) (sym same) st.played;
   }
 
@@ -75,6 +126,7 @@ module _ {lockstep : Bool} (s : Script) (q k : ℕ) where
     settled = st.settled;
     latest_is = st.latest_is;
     awaits_is = st.awaits_is;
+    in_time = λ is sound. let was = st.in_time is sound in record { up_to = was.up_to; pulses = no_pulse acts (Idle i t) refl ∙ was.pulses };
     played = st.played;
   }
   stands_quiet es (Event f e m) acts parts did a is st = record {
@@ -86,6 +138,7 @@ module _ {lockstep : Bool} (s : Script) (q k : ℕ) where
     settled = st.settled;
     latest_is = st.latest_is;
     awaits_is = st.awaits_is;
+    in_time = λ is sound. let was = st.in_time is sound in record { up_to = was.up_to; pulses = no_pulse acts (Event f e m) refl ∙ was.pulses };
     played = st.played;
   }
   stands_quiet es (Dispatch n m r) acts parts did a is st = absurd is

@@ -7,7 +7,7 @@ use Rattle.looper_run.specs.Holding.{KeptOwn as Own}
 use Rattle.looper_run.specs.Holding.{Sender, Workplace, held, IsSameOwn}
 use Rattle.looper_run.specs.Tests.{IsLent}
 use Rattle.looper_run.specs.Acts.{IsOfDispatcher, GrowsBy}
-use Rattle.choreographer.specs.Known.{Shared as Frames, Known as Pass, IsOf}
+use Rattle.choreographer.specs.Known.{Shared as Frames, Known as Pass, IsOf, SeesQuietly}
 use Rattle.run_model.specs.Planned.{frame_handler}
 use Rattle.dash_script.specs.declared.script.Script.{Script}
 use Rattle.dash_hall.specs.declared.hall.Hall.{Hall}
@@ -64,11 +64,13 @@ pub record TellsNothing (lends lends' : Own) : Type 0 where
   pub calls : calls_of lends'.poster.now ≡ calls_of lends.poster.now
   pub acts : lends'.journal.now.acts ≡ lends.journal.now.acts
 
--- the pass has seen all that it had, asked for nothing more, and its latest pulse is the latest still, its frame to begin or not as before
+-- the pass has seen all that it had, asked for nothing more, and its latest pulse is the latest still, its frame to begin or not as before; and what it saw
+-- more was quiet
 pub record AsksNothing (before after : Pass) : Type 0 where
   pub seen : IsPrefix before.view.seen after.view.seen
   pub asks : asks_of after ≡ asks_of before
   pub latest : KeepsLatest before after
+  pub quiet : SeesQuietly before after
 
 -- the journal is the same looper's, and acts of its code were appended
 pub record TellsMore (before after : Journal) : Type 0 where

@@ -125,6 +125,7 @@ looper_run = record {
   on_time = tt;
   whole = refl;
   moments = tt;
+  pulses = tt;
 }
 
 pub is_run : IsRun mode script report

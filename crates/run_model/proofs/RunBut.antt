@@ -21,10 +21,9 @@ use Rattle.run_model.specs.declared.report.Report.{Report}
 use Rattle.run_model.specs.Planned.{history_of, AreFor, entries_by, looper_sender, controller}
 use Rattle.run_model.specs.Moments.{in_lockstep}
 use Rattle.run_model.specs.Control.{is_called_in_time, are_before_quit, befores, are_on_time, Move, moves, move_times, main_moves, MayMoveTo}
-use Rattle.run_model.specs.Loopers.{Looper, first_looper, MayCome, after_act, Lead, IsSent, asked_then}
+use Rattle.run_model.specs.Loopers.{Looper, first_looper, MayCome, after_act, Lead, IsSent, asked_then, has_frames}
 use Rattle.run_model.specs.FrameRecords.{are_run_then, are_whole, asks_in, TimedAsk, AreAskedInTurn}
-use Rattle.run_model.specs.Run.{IsReportOf, AreRecordsOf, IsAsPlanned, IsControlled, IsFrameRun, caused_on, IsLooperRun, EachLooper, are_in_order, IsTimely}
-use Rattle.run_model.specs.Run.{main_ends_halted, IsRun}
+use Rattle.run_model.specs.Run.{IsReportOf, AreRecordsOf, IsAsPlanned, IsControlled, IsFrameRun, caused_on, IsLooperRun, EachLooper, are_in_order, IsTimely, main_ends_halted, IsRun}
 use Rattle.run_model.specs.Parts.{all_entries, IsThreadOnTime, IsBeforeQuit}
 
 -- a clause of the definition, left out or kept
@@ -67,6 +66,8 @@ pub data Clause : Type 0 where
   Rising : Clause
   -- each pulse comes once the frame message of the one before it is taken, and a frame runs for such a pulse
   Awaited : Clause
+  -- each pulse whose message is taken has its frame
+  Framed : Clause
 
 abbrev pub number_of : Clause → ℕ
 number_of Nothing = 0
@@ -88,6 +89,7 @@ number_of Together = 15
 number_of InTurn = 16
 number_of Rising = 17
 number_of Awaited = 18
+number_of Framed = 19
 
 -- this is so, unless it is the clause that is left out
 abbrev pub Unless : Clause → Clause → Type 0 → Type 0
@@ -154,6 +156,7 @@ pub record IsLooperRunBut (out : Clause) (s : Script) (queues : List QueueRecord
   pub whole : Unless out Whole (are_whole f.phases f.entries final.frames ≡ true)
   pub on_time : Unless out OnTime (Unless out Takes (AllByRecursion (λ (r : QueueRecord). are_on_time (map (λ x. x.timing) (caused_on r.looper final q.looper disposed_at)) (befores (looper_sender s q.looper) (history_of r)) ≡ true) queues))
   pub moments : Unless out Moments (Unless out Starts (are_run_then f.entries final.frames ≡ true))
+  pub pulses : Unless out Framed (Unless out Awaited (has_frames j.acts final ≡ true))
 
 -- a choreographer's record, but for the clause that is left out
 pub record IsFrameRunBut (out : Clause) (s : Script) (f : FrameRecord) : Type 0 where
@@ -218,6 +221,7 @@ is_run s r h = record {
     whole = x.whole;
     on_time = x.on_time;
     moments = x.moments;
+    pulses = x.pulses;
   }) r.queues r.journals r.frames h.loopers;
   timely = record {
     halted = h.halted;

@@ -212,6 +212,15 @@ abbrev pub Lead : Script → ℕ → List Entry → List FrameEntry → Looper �
 Lead s q es fs a [] b = a ≡ b
 Lead s q es fs a (x ∷ xs) b = (frame : Option ℕ) × (MayCome s q es fs frame a x × Lead s q es fs (after_act s q es fs frame a x) xs b)
 
+-- the stamp of a pulse
+abbrev pub pulse_stamp : Act → Option ℕ
+pulse_stamp (Vsync stamp) = Some stamp
+pulse_stamp _ = None
+
+-- there are as many frames as pulses, but for one whose frame message isn't taken yet
+abbrev pub has_frames : List Act → Looper → Bool
+has_frames acts a = length (filter_map pulse_stamp acts) == length a.frames + (if a.awaits then 1 else 0)
+
 -- the last call of a looper that is not main: the look for a message that disposes of its queue
 abbrev pub closing : ℕ → ℕ → List Sent
 closing q now = if q == 0 then [] else record { queue = q; ask = Makes (Next now); reply = Some Disposed; timing = NotBefore 0 } ∷ []

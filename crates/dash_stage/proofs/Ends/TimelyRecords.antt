@@ -78,10 +78,10 @@ seen_at ps whole q p d seen lt lt' =
     sym (get_or-map (λ (z : Sender). z.view.seen) ps q p [] lt) ∙ ap (λ l. slice_index_or l q []) seen ∙ get_or-map (λ (z : Sender). z.view.seen) whole q d [] lt'
 
 -- the setting of a looper's record
-setting_is : (s : Script) (q : ℕ) (r : QueueRecord) → IsRecordOf in_lockstep all_entries s r → r.looper ≡ q → setting_of r ≡ setting_for s q
-setting_is s q r is number =
+pub setting_is : (m : Mode) (s : Script) (q : ℕ) (r : QueueRecord) → IsRecordOf m all_entries s r → r.looper ≡ q → m.lockstep ≡ true → setting_of r ≡ setting_for s q
+setting_is m s q r is number step =
     let main = is.main ∙ ap (λ (l : ℕ). l == 0) number in
-    let lockstep = is.lockstep in
+    let lockstep = is.lockstep ∙ step in
     let senders = is.senders in
     λ i. record { main = main i; lockstep = lockstep i; senders = senders i }
 
@@ -206,7 +206,7 @@ module _ (s : Script) (hall : Hall) (kits : List Kit) (records : List QueueRecor
   is_sound q d r lt =
       let mine = slice_index_or records q r in
       let is = history in_lockstep s hall kits records h are c held recs all seen q r lt in
-      let set = setting_is s q mine is (number in_lockstep s hall kits records h are c held recs all seen q r lt) in
+      let set = setting_is in_lockstep s q mine is (number in_lockstep s hall kits records h are c held recs all seen q r lt) refl in
       let same = is_seen in_lockstep s hall kits records h are c held recs all seen q d r lt in
       record {
         legal = subst (IsLegal (setting_for s q) (empty_base (sender_count s))) same (subst (λ (z : Setting). IsLegal z (empty_base z.senders) (history_of mine)) set is.legal);

@@ -29,7 +29,7 @@ use Rattle.run_model.specs.AskedSoFar.{tokens_in}
 use Rattle.run_model.specs.Moments.{Mode, IfLockstep}
 use Rattle.run_model.specs.Control.{NotBefore, Timing, befores, are_on_time, are_controls, is_controlled}
 use Rattle.run_model.specs.Parts.{is_quit_by_others, disposed_count, sent_on}
-use Rattle.run_model.specs.Loopers.{Looper, Sent, first_looper, Lead, closing, IsSent, asked_then}
+use Rattle.run_model.specs.Loopers.{Looper, Sent, first_looper, Lead, closing, IsSent, asked_then, has_frames}
 use Rattle.run_model.specs.FrameRecords.{are_whole, are_run_then, asks_in, AreAskedInTurn}
 use Rattle.run_model.specs.Run.{IsAsPlanned, IsControlled, IsLooperRun, IsFrameRun, EachLooper, setting_of, caused_on}
 use Rattle.run_model.proofs.RunLaws.{AreFor-snoc, sent_on-append, are_on_time-snoc}
@@ -40,7 +40,10 @@ use Rattle.dash_hall.specs.Growth.{own}
 use Rattle.dash_hall.specs.Hearing.{seen_by, HaveSeenAll}
 use Rattle.dash_hall.specs.Kits.{badge_of, badge_for, IsHall, AreKitsOf}
 use Rattle.dash_loopers.specs.declared.looper.StageLooper.{StageLooper}
-use Rattle.dash_loopers.specs.Loopers.{is_disposal, calls_among, DisposesLast, HaveTold, IsLooperOf}
+use Rattle.dash_loopers.specs.Loopers.{is_disposal, calls_among, DisposesLast, HaveTold, IsLooperOf, IsSoundOn}
+use Rattle.dash_loopers.specs.PlayingLaws.{sound_front}
+use Rattle.loop_model.specs.Answers.{Setting}
+use Rattle.loop_model.specs.Legal.{IsLegal, AreNumbered}
 use Rattle.dash_stage.specs.declared.control.Controller.{Controller}
 use Rattle.dash_stage.specs.Leaving.{HaveGiven}
 use Rattle.dash_stage.specs.Playing.{befores_called, AreCallsOnTime}
@@ -59,8 +62,8 @@ use Rattle.dash_stage.proofs.Played.Dispatched.{each_looper, dispatches_of_recor
 use Rattle.dash_stage.proofs.Played.Disposing.{thread_disposes_nothing, controls_dispose_nothing, none_of_all, none_by, none_counted, none_disposed, calls_dispose_nothing, calls_are_all, closing_sent, befores_are, befores_end}
 use Rattle.dash_stage.proofs.Ends.HallEnds.{some_of}
 use Rattle.dash_stage.proofs.Played.OwnLooks.{NoneDisposes, LooksAtOwn, looks_at_own, none_elsewhere}
-use Rattle.dash_stage.proofs.Played.Standing.{HasLeftIn, HasStarted, StandsAt}
-use Rattle.dash_stage.proofs.Ends.TimelyRecords.{few, in_posters, within, history, number, is_seen}
+use Rattle.dash_stage.proofs.Played.Standing.{HasLeftIn, HasStarted, HasFramed, StandsAt}
+use Rattle.dash_stage.proofs.Ends.TimelyRecords.{few, in_posters, within, history, number, is_seen, setting_is}
 
 -- the timings of calls
 abbrev timings : List Sent → List Timing
@@ -103,6 +106,11 @@ pub in_step : (b : Bool) (P Q : Type 0) → (P → Q) → MatchBool b P (Unit {0
 in_step true P Q f p = f p
 in_step false P Q f p = tt
 
+-- and what follows there by its being lockstep
+in_step_by : (b : Bool) (P Q : Type 0) → (b ≡ true → P → Q) → MatchBool b P (Unit {0}) → MatchBool b Q (Unit {0})
+in_step_by true P Q f p = f refl p
+in_step_by false P Q f p = tt
+
 -- its calls came at their times: on its own queue all but the looks that disposed of it, and on each other queue all
 record AreTimely (s : Script) (queues : List QueueRecord) (k : ℕ) (a : Looper) : Type 0 where
   here : (x : QueueRecord) → are_on_time (timings (sent_on k a.sent)) (befores_called (looper_sender s k) (history_of (slice_index_or queues k x))) ≡ true
@@ -123,6 +131,7 @@ record Known (m : Mode) (s : Script) (queues : List QueueRecord) (k : ℕ) (j : 
   told : (x : QueueRecord) → filter_map act_dispatch j.acts ≡ filter_map (λ e. call_dispatch e.call e.reply) (entries_by (looper_sender s k) (history_of (slice_index_or queues k x)))
   asked : AreAskedInTurn m.lockstep (asks_in f.entries) (asked_then s k a)
   timely : IfLockstep m (AreTimely s queues k a)
+  framed : IfLockstep m (has_frames j.acts a ≡ true)
 
 module _ (mode : Mode) (s : Script) (queues : List QueueRecord) (k : ℕ) (j : Journal) (f : FrameRecord) (kit : Kit) (a : Looper) (h : Known mode s queues k j f kit a) where
   -- its acts lead there
@@ -182,6 +191,7 @@ module _ (mode : Mode) (s : Script) (queues : List QueueRecord) (k : ℕ) (j : J
         on_time = in_step mode.lockstep (AreTimely s queues k a) (AllByRecursion (λ (r : QueueRecord). are_on_time (timings (caused_on r.looper a q.looper at)) (befores (looper_sender s q.looper) (history_of r)) ≡ true) queues)
             (λ t. subst (λ (m : ℕ). AllByRecursion (λ (r : QueueRecord). are_on_time (timings (caused_on r.looper a m at)) (befores (looper_sender s m) (history_of r)) ≡ true) queues) (sym is) (each_time t)) h.timely;
         moments = in_step mode.lockstep (HasStarted s kit a) (are_run_then f.entries a.frames ≡ true) (λ t. t h.pass f.entries (h.frames 0 (omega arith)) is_lawful) h.left.moments;
+        pulses = h.framed;
       }
     where
       same : (r : ℕ) (y : QueueRecord) → r ≡ k → r < length queues → (history_of (slice_index_or queues k x)) ≡ (history_of (slice_index_or queues r y))
@@ -286,6 +296,21 @@ module _ (mode : Mode) (s : Script) (hall : Hall) (kits : List Kit) (queues : Li
       (in_step mode.lockstep ((x : Pass) → HasAskedInTurn s k (slice_index_or c.kit.frames.items k x) (stood k lt).state) (HasAskedInTurn s k (slice_index_or (slice_index_or kits (controller s) c.kit).frames.items k p) (stood k lt).state)
       (λ t. subst (λ (z : Kit). HasAskedInTurn s k (slice_index_or z.frames.items k p) (stood k lt).state) (sym (held c.kit)) (t p)) (stood k lt).in_turn)
 
+  -- in lockstep what its poster of its own queue has seen is a history of that queue
+  own_sound : mode.lockstep ≡ true → (k : ℕ) (p : Sender) → k < length queues → IsSoundOn s k (slice_index_or (kit_at k).posters.items k p).view.seen
+  unfolding kit_at
+  own_sound step k p lt =
+      let x = some_of queues k lt in
+      let mine = slice_index_or queues k x in
+      let is = history mode s hall kits queues h are c held recs all seen k x lt in
+      let set = setting_is mode s k mine is (number mode s hall kits queues h are c held recs all seen k x lt) step in
+      let begins = (all (s.threads + k) k c.kit p x (in_kits k lt) lt).1 in
+      let whole : IsSoundOn s k (history_of mine) = record {
+        legal = subst (λ (z : Setting). IsLegal z (empty_base z.senders) (history_of mine)) set is.legal;
+        numbered = subst (λ (z : Setting). AreNumbered z (empty_base z.senders) (history_of mine)) set is.numbered;
+      } in
+      sound_front s k (slice_index_or (kit_at k).posters.items k p).view.seen begins.0 (subst (IsSoundOn s k) (sym begins.1) whole)
+
   -- what is known of each looper
   known : (k : ℕ) (j : Journal) (f : FrameRecord) (lt : k < length queues) → Known mode s queues k (slice_index_or js k j) (slice_index_or fs k f) (kit_at k) (stood k lt).state
   unfolding kit_at stood
@@ -322,6 +347,8 @@ module _ (mode : Mode) (s : Script) (hall : Hall) (kits : List Kit) (queues : Li
               subst (λ (es : List Entry). are_on_time (timings (sent_on r (stood k lt).state.sent)) (befores (looper_sender s k) es) ≡ true) (sym (is_seen mode s hall kits queues h are c held recs all seen r d x below))
               (on_time.elsewhere r d apart there);
         }) (stood k lt).on_time;
+        framed = in_step_by mode.lockstep (HasFramed s k (slice_index_or js k j) kit (stood k lt).state) (has_frames (slice_index_or js k j).acts (stood k lt).state ≡ true)
+            (λ step ran. (let p = some_of kit.posters.items k (poster_in k lt) in ran p (own_sound step k p lt))) ((stood k lt).left j c.kit).pulses;
       }
 
   -- no other sender than its looper disposes of a queue

@@ -19,6 +19,10 @@ use Rattle.run_model.specs.Planned.{AreFor, entries_by, looper_sender}
 use Rattle.run_model.specs.AskedSoFar.{tokens_in}
 use Rattle.run_model.specs.Loopers.{Looper, first_looper, Lead, IsSent}
 use Rattle.run_model.specs.Parts.{sent_on}
+use Rattle.loop_model.specs.Base.{empty_base}
+use Rattle.loop_model.specs.Answers.{clock}
+use Rattle.choreographer.proofs.InTime.{later_quietly}
+use Rattle.dash_loopers.specs.PlayingLaws.{runs_later}
 use Rattle.run_model.specs.Control.{are_on_time, befores}
 use Rattle.run_model.proofs.Growth.{Lead-entries}
 use Rattle.dash_hall.specs.declared.hall.Hall.{Hall}
@@ -29,8 +33,8 @@ use Rattle.dash_loopers.specs.declared.player.Parts.{Parts}
 use Rattle.dash_loopers.specs.declared.view_root.ViewRoot.{ViewRoot}
 use Rattle.dash_loopers.specs.declared.looper.StageLooper.{StageLooper}
 use Rattle.dash_loopers.specs.Players.{PlaceWithout}
-use Rattle.dash_loopers.specs.Loopers.{IsLooper, Rest, LooperKeeps, posters_of, others_in, rest_in}
-use Rattle.dash_loopers.specs.Played.{is_disposal, calls_in, IsRootOf, IsShown, IsPlayed, StandsBy, HasCome, HasComeBy}
+use Rattle.dash_loopers.specs.Loopers.{IsLooper, IsSoundOn, Rest, LooperKeeps, posters_of, others_in, rest_in, is_disposal}
+use Rattle.dash_loopers.specs.Played.{calls_in, IsRootOf, IsShown, IsPlayed, IsUpTo, StandsBy, HasCome, HasComeBy}
 use Rattle.dash_stage.specs.declared.stage.Stage.{Stage}
 use Rattle.dash_stage.specs.Stages.{IsStage}
 use Rattle.dash_stage.specs.Sharing.{HaveSeenTheSame}
@@ -102,6 +106,14 @@ stands_heard {lockstep} s q k es es' acts parts parts' did a more calls frames c
     waits = frames.same.awaits ∙ was.waits;
   };
   awaits_is = awaits ∙ st.awaits_is;
+  in_time = λ is sound.
+      let was = runs_later s q es more.0 acts parts.frames a.awaits did.frames (st.in_time is) (subst (IsSoundOn s q) (sym more.1) sound) in
+      let has = st.latest_is in
+      record {
+        up_to = later_quietly (nanos_of (clock (empty_base (sender_count s)) es')) parts.frames.view.seen parts'.frames.view.seen (frames.same.quiet has.key has.constants has.alone)
+            (subst (λ (l : List Entry). IsUpTo (nanos_of (clock (empty_base (sender_count s)) l)) parts.frames) more.1 was.up_to);
+        pulses = was.pulses;
+      };
   played = record {
     shown = shown_heard s q (calls_in k es') parts.root parts'.root did client root (subst (λ l. IsShown s q l parts.root did) (sym calls) st.played.shown);
     elsewhere = λ r j d at lt.

@@ -10,13 +10,14 @@ use Rattle.dash_script.specs.Causes.{phase_count}
 use Rattle.choreographer.specs.Known.{Known as Pass}
 use Rattle.looper_run.specs.Holding.{Sender}
 use Rattle.run_model.specs.Planned.{AreFor}
-use Rattle.run_model.specs.Loopers.{Lead, IsSent, Looper, first_looper}
+use Rattle.run_model.specs.Loopers.{Lead, IsSent, Looper, first_looper, has_frames}
 use Rattle.run_model.specs.Parts.{sent_on, asks_to_run}
 use Rattle.run_model.specs.FrameRecords.{are_run_then, are_whole, as_told}
 use Rattle.dash_hall.specs.declared.kit.Kit.{Kit}
 use Rattle.dash_hall.specs.Growth.{own}
 use Rattle.dash_hall.specs.Hosts.{asks_of}
 use Rattle.dash_loopers.specs.declared.looper.StageLooper.{StageLooper}
+use Rattle.dash_loopers.specs.Loopers.{IsSoundOn}
 use Rattle.dash_loopers.specs.Played.{calls_of, HasCome, HasLeft, HasLeftBy}
 use Rattle.dash_stage.specs.declared.control.Controller.{Controller}
 use Rattle.dash_stage.specs.Leaving.{HaveGiven}
@@ -28,11 +29,16 @@ use Rattle.dash_stage.proofs.Played.Asked.{HasAskedInTurn}
 abbrev pub HasStarted : Script → Kit → Looper → Type 0
 HasStarted s kit a = (p : Pass) (fs : List FrameEntry) → IsPrefix (slice_index_or kit.frames.items 0 p).view.seen fs → lawful s.period (phase_count s.edition) fs ≡ true → are_run_then fs a.frames ≡ true
 
+-- each pulse that came to the looper and whose message it took had its frame, where its queue had a history in lockstep
+abbrev pub HasFramed : Script → ℕ → Journal → Kit → Looper → Type 0
+HasFramed s q j kit a = (d : Sender) → IsSoundOn s q (slice_index_or kit.posters.items q d).view.seen → has_frames j.acts a ≡ true
+
 -- where a looper stood, told in lockstep or by a clock by its journal and what it worked with
 pub record HasLeftIn (lockstep : Bool) (s : Script) (q : ℕ) (j : Journal) (kit : Kit) (a : Looper) : Type 0 where
   pub led : (d : Sender) (p : Pass) (fs : List FrameEntry) → IsPrefix (slice_index_or kit.frames.items 0 p).view.seen fs → lawful s.period (phase_count s.edition) fs ≡ true
       → Lead s q (slice_index_or kit.posters.items q d).view.seen fs (first_looper s) j.acts a
   pub moments : MatchBool lockstep (HasStarted s kit a) (Unit {0})
+  pub pulses : MatchBool lockstep (HasFramed s q j kit a) (Unit {0})
   pub whole : (p : Pass) (fs : List FrameEntry) → IsPrefix (slice_index_or kit.frames.items 0 p).view.seen fs → lawful s.period (phase_count s.edition) fs ≡ true → are_whole (phase_count s.edition) fs a.frames ≡ true
   pub settled : a.painted ≡ []
   pub calls : (d : Sender) → AreFor IsSent [] (sent_on q a.sent) (calls_of (slice_index_or kit.posters.items q d))
@@ -53,6 +59,7 @@ left_in_step : (s : Script) (q : ℕ) (j : Journal) (kit : Kit) (a : Looper) →
 left_in_step s q j kit a h = record {
   led = h.led;
   moments = h.moments;
+  pulses = h.pulses;
   whole = h.whole;
   settled = h.settled;
   calls = h.calls;
@@ -66,6 +73,7 @@ left_by_clock : (s : Script) (q : ℕ) (j : Journal) (kit : Kit) (a : Looper) �
 left_by_clock s q j kit a h = record {
   led = h.led;
   moments = tt;
+  pulses = tt;
   whole = h.whole;
   settled = h.settled;
   calls = h.calls;

@@ -22,18 +22,18 @@ load-requires c = let m : Sat = c.join_seat.new.seat.me in (search rules, search
 pub invariant_of-self : goal.invariant_of-self
 invariant_of-self c =
     let l = c.load.ensures.2 in
-    still_idle c.self.inside.number c.self.inside.seat.me c.other.inside.seat.me.0 c.join_seat.new.seat.me c.load.new.seat.me c.self.invariant (search rules) l.0 l.1 l.2 l.3 l.4
+    still_idle c.self.inside.number c.self.inside.seat.me c.other.inside.seat.me.0 c.join_seat.new.seat.me c.load.new.seat.me c.self.invariant (search rules) l.0 l.1 l.2 l.3 l.4 l.5
 
 pub returns-clause-begins : goal.returns-clause-begins
 returns-clause-begins c =
     let l = c.load.ensures.2 in
     subst (λ (z : Known × Known). IsPrefix z.0.view.heard c.load.new.seat.me.0.heard × IsPrefix z.1.view.heard c.load.new.seat.me.0.heard) (λ i. (c.self.view_is i, c.other.view_is i))
-    (heard_begins c.self.inside.number c.self.inside.seat.me c.other.inside.seat.me.0 c.join_seat.new.seat.me c.load.new.seat.me c.self.invariant (search rules) l.0 l.1 l.2 l.3 l.4)
+    (heard_begins c.self.inside.number c.self.inside.seat.me c.other.inside.seat.me.0 c.join_seat.new.seat.me c.load.new.seat.me c.self.invariant (search rules) l.0 l.1 l.2 l.3 l.4 l.5)
 
 pub returns-clause-knows : goal.returns-clause-knows
 returns-clause-knows c =
     let l = c.load.ensures.2 in
-    let idle = still_idle c.self.inside.number c.self.inside.seat.me c.other.inside.seat.me.0 c.join_seat.new.seat.me c.load.new.seat.me c.self.invariant (search rules) l.0 l.1 l.2 l.3 l.4 in (
+    let idle = still_idle c.self.inside.number c.self.inside.seat.me c.other.inside.seat.me.0 c.join_seat.new.seat.me c.load.new.seat.me c.self.invariant (search rules) l.0 l.1 l.2 l.3 l.4 l.5 in (
       subst HasHeardWho c.self.view_is (knows_own (record { table = c.self.inside.seat.table_id; number = c.self.inside.number; view = c.self.inside.seat.me.0 }) c.self.invariant.2 c.self.invariant.3),
       subst HasHeardWho c.other.view_is (knows_own (record { table = c.other.inside.seat.table_id; number = c.other.inside.number; view = c.other.inside.seat.me.0 }) c.other.invariant.2 c.other.invariant.3),
       knows_own _ idle.2 idle.3,
@@ -50,5 +50,5 @@ returns-clause-grows c =
 pub returns-clause-same : goal.returns-clause-same
 returns-clause-same c =
     let l = c.load.ensures.2 in
-    let same = only_heard c.self.inside.number c.self.inside.seat.me c.other.inside.seat.me.0 c.join_seat.new.seat.me c.load.new.seat.me c.self.invariant (search rules) l.0 l.1 l.2 l.3 l.4 c.self.inside.seat.table_id c.load.new.seat.table_id (search rules) in
+    let same = only_heard c.self.inside.number c.self.inside.seat.me c.other.inside.seat.me.0 c.join_seat.new.seat.me c.load.new.seat.me c.self.invariant (search rules) l.0 l.1 l.2 l.3 l.4 l.5 c.self.inside.seat.table_id c.load.new.seat.table_id (search rules) in
     subst (λ (z : Known). HasOnlyHeard z (record { table = c.load.new.seat.table_id; number = c.self.inside.number; view = c.load.new.seat.me.0 })) c.self.view_is same

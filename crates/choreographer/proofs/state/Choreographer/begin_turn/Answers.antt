@@ -7,21 +7,28 @@ use Rattle.choreographer.proofs.Clock.{backs_late}
 use Rattle.choreographer.proofs.Waits.{begun_asks}
 use Rattle.choreographer.proofs.state.Choreographer.begin_turn.Goals as goal
 
-pub give-requires-clause-stamped : goal.give-requires-clause-stamped
-give-requires-clause-stamped g c =
-    stamped_begin c.take-state.result c.begin_frame-answer.new.self c.take-state.ensures.found.stamped c.args.start c.begin_frame-answer.result c.begin_frame-answer.ensures.begins c.begin_frame-answer.ensures.stamp
-
-pub give-requires-clause-state : goal.give-requires-clause-state
-give-requires-clause-state g c =
-    let x = c.take-state.result in
-    let y = c.begin_frame-answer.new.self in
-    (search rules, begin_gives c.take-state.new.seat.me.0 x y c.args.start c.begin_frame-answer.result (search rules) c.begin_frame-answer.ensures.steps c.begin_frame-answer.ensures.begins)
-
-pub give-requires-clause-handed : goal.give-requires-clause-handed
-give-requires-clause-handed g c =
-    let x = c.take-state.result in
-    subst (λ (z : Sat). MaySeal c.args.self.now.constants z.0 c.begin_frame-answer.new.self) (sym c.take-state.ensures.taken)
-    (keeps_handed c.args.self.now.constants c.pass.inside.seat.me.0 x c.begin_frame-answer.new.self c.take-state.new.seat.me.0.heard c.begin_frame-answer.ensures.steps.0)
+pub give-requires-clause-leaves : goal.give-requires-clause-leaves
+give-requires-clause-leaves g c = record {
+  state = (
+      let x = c.take-state.result in
+      let y = c.begin_frame-answer.new.self in
+      (search rules, begin_gives c.take-state.new.seat.me.0 x y c.args.start c.begin_frame-answer.result (search rules) c.begin_frame-answer.ensures.steps c.begin_frame-answer.ensures.begins));
+  stamped = stamped_begin c.take-state.result c.begin_frame-answer.new.self c.take-state.ensures.found.stamped c.args.start c.begin_frame-answer.result c.begin_frame-answer.ensures.begins c.begin_frame-answer.ensures.stamp;
+  handed = (
+      let x = c.take-state.result in
+      subst (λ (z : Sat). MaySeal c.args.self.now.constants z.0 c.begin_frame-answer.new.self) (sym c.take-state.ensures.taken)
+      (keeps_handed c.args.self.now.constants c.pass.inside.seat.me.0 x c.begin_frame-answer.new.self c.take-state.new.seat.me.0.heard c.begin_frame-answer.ensures.steps.0));
+  latest = subst (λ (z : Sat). MayPulse c.args.self.now.constants z.0 c.begin_frame-answer.new.self) (sym c.take-state.ensures.taken)
+      (may_pulse c.args.self.now.constants c.pass.inside.seat.me.0 c.take-state.result c.begin_frame-answer.new.self c.take-state.new.seat.me.0.heard c.pass.inside.number c.pass.invariant.2
+      (λ n named. ap (λ (p : Known). p.number) c.pass.view_is ∙ c.requires.begins.0 n named));
+  asks = begun_asks c.take-state.result c.begin_frame-answer.new.self c.args.self.now.constants c.args.start c.begin_frame-answer.result c.begin_frame-answer.ensures.begins
+      (λ n named.
+      let is : c.args.pass.now.number ≡ n = c.requires.begins.0 n named in
+      let only : c.pass.inside.seat.me.0.passes ≡ n ∷ [] = c.pass.invariant.2 ∙ ap (λ (k : ℕ). k ∷ []) (ap (λ (p : Known). p.number) c.pass.view_is ∙ is) in
+      (c.take-state.ensures.found.latest n named only).1
+      ∙ (ap (λ (p : Known). p.view.awaits) c.pass.view_is ∙ c.requires.begins.1 c.args.self.now.constants c.requires.pass.1 (named ∙ ap Some (sym is))))
+      c.take-state.ensures.found.asks;
+}
 
 pub returns-clause-turn : goal.returns-clause-turn
 returns-clause-turn g c =
@@ -35,22 +42,6 @@ returns-clause-turn g c =
       search rules,
       search rules,
     )
-
-pub give-requires-clause-latest : goal.give-requires-clause-latest
-give-requires-clause-latest g c =
-    subst (λ (z : Sat). MayPulse c.args.self.now.constants z.0 c.begin_frame-answer.new.self) (sym c.take-state.ensures.taken)
-    (may_pulse c.args.self.now.constants c.pass.inside.seat.me.0 c.take-state.result c.begin_frame-answer.new.self c.take-state.new.seat.me.0.heard c.pass.inside.number c.pass.invariant.2
-    (λ n named. ap (λ (p : Known). p.number) c.pass.view_is ∙ c.requires.begins.0 n named))
-
-pub give-requires-clause-asks : goal.give-requires-clause-asks
-give-requires-clause-asks g c =
-    begun_asks c.take-state.result c.begin_frame-answer.new.self c.args.self.now.constants c.args.start c.begin_frame-answer.result c.begin_frame-answer.ensures.begins
-    (λ n named.
-    let is : c.args.pass.now.number ≡ n = c.requires.begins.0 n named in
-    let only : c.pass.inside.seat.me.0.passes ≡ n ∷ [] = c.pass.invariant.2 ∙ ap (λ (k : ℕ). k ∷ []) (ap (λ (p : Known). p.number) c.pass.view_is ∙ is) in
-    (c.take-state.ensures.found.latest n named only).1
-    ∙ (ap (λ (p : Known). p.view.awaits) c.pass.view_is ∙ c.requires.begins.1 c.args.self.now.constants c.requires.pass.1 (named ∙ ap Some (sym is))))
-    c.take-state.ensures.found.asks
 
 pub returns-clause-clock : goal.returns-clause-clock
 unfolding returns-clause-turn

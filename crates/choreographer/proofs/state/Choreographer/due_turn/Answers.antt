@@ -5,10 +5,16 @@ use Rattle.choreographer.proofs.Stamps.{stamped_due}
 use Rattle.choreographer.proofs.Waits.{due_waits}
 use Rattle.choreographer.proofs.state.Choreographer.due_turn.Goals as goal
 
-pub give-requires-clause-stamped : goal.give-requires-clause-stamped
-give-requires-clause-stamped g c =
-    let e = c.schedule_due-did.ensures in
-    stamped_due c.take-state.result c.schedule_due-did.new.self c.take-state.ensures.found.stamped c.args.now c.schedule_due-did.result e.after e.quiet e.stamp
+pub give-requires-clause-leaves : goal.give-requires-clause-leaves
+give-requires-clause-leaves g c = record {
+  state = search rules;
+  stamped = (
+      let e = c.schedule_due-did.ensures in
+      stamped_due c.take-state.result c.schedule_due-did.new.self c.take-state.ensures.found.stamped c.args.now c.schedule_due-did.result e.after e.quiet e.stamp);
+  handed = search rules;
+  latest = keeps_pulse c.args.self.now.constants c.pass.inside.seat.me.0 c.take-state.result c.schedule_due-did.new.self c.take-state.new.seat.me c.take-state.ensures.taken c.schedule_due-did.ensures.stamp (due_waits c.take-state.result c.schedule_due-did.new.self c.args.now c.schedule_due-did.result c.schedule_due-did.ensures.after).awaits c.schedule_due-did.ensures.quiet.1;
+  asks = (due_waits c.take-state.result c.schedule_due-did.new.self c.args.now c.schedule_due-did.result c.schedule_due-did.ensures.after).asks c.args.self.now.constants c.take-state.ensures.found.asks;
+}
 
 pub returns : goal.returns
 returns g c =
@@ -22,10 +28,3 @@ returns g c =
       search rules,
       search rules,
     )
-
-pub give-requires-clause-latest : goal.give-requires-clause-latest
-give-requires-clause-latest g c =
-    keeps_pulse c.args.self.now.constants c.pass.inside.seat.me.0 c.take-state.result c.schedule_due-did.new.self c.take-state.new.seat.me c.take-state.ensures.taken c.schedule_due-did.ensures.stamp (due_waits c.take-state.result c.schedule_due-did.new.self c.args.now c.schedule_due-did.result c.schedule_due-did.ensures.after).awaits c.schedule_due-did.ensures.quiet.1
-
-pub give-requires-clause-asks : goal.give-requires-clause-asks
-give-requires-clause-asks g c = (due_waits c.take-state.result c.schedule_due-did.new.self c.args.now c.schedule_due-did.result c.schedule_due-did.ensures.after).asks c.args.self.now.constants c.take-state.ensures.found.asks

@@ -5,10 +5,16 @@ use Rattle.choreographer.proofs.Stamps.{stamped_posted}
 use Rattle.choreographer.proofs.Waits.{posted_waits}
 use Rattle.choreographer.proofs.state.Choreographer.post_turn.Goals as goal
 
-pub give-requires-clause-stamped : goal.give-requires-clause-stamped
-give-requires-clause-stamped g c =
-    let e = c.post-answer.ensures in
-    let a = c.args.asked in stamped_posted c.take-state.result c.post-answer.new.self c.take-state.ensures.found.stamped a.phase a.due a.id a.token c.args.now c.post-answer.result e.after e.err e.quiet e.stamp
+pub give-requires-clause-leaves : goal.give-requires-clause-leaves
+give-requires-clause-leaves g c = record {
+  state = search rules;
+  stamped = (
+      let e = c.post-answer.ensures in
+      let a = c.args.asked in stamped_posted c.take-state.result c.post-answer.new.self c.take-state.ensures.found.stamped a.phase a.due a.id a.token c.args.now c.post-answer.result e.after e.err e.quiet e.stamp);
+  handed = search rules;
+  latest = keeps_pulse c.args.self.now.constants c.pass.inside.seat.me.0 c.take-state.result c.post-answer.new.self c.take-state.new.seat.me c.take-state.ensures.taken c.post-answer.ensures.stamp (posted_waits c.take-state.result c.post-answer.new.self c.args.asked.phase c.args.asked.due c.args.asked.id c.args.asked.token c.args.now c.post-answer.result c.post-answer.ensures.after c.post-answer.ensures.err).awaits c.post-answer.ensures.quiet.1;
+  asks = (posted_waits c.take-state.result c.post-answer.new.self c.args.asked.phase c.args.asked.due c.args.asked.id c.args.asked.token c.args.now c.post-answer.result c.post-answer.ensures.after c.post-answer.ensures.err).asks c.args.self.now.constants c.take-state.ensures.found.asks;
+}
 
 pub returns : goal.returns
 returns g c =
@@ -23,10 +29,3 @@ returns g c =
       search rules,
       search rules,
     )
-
-pub give-requires-clause-latest : goal.give-requires-clause-latest
-give-requires-clause-latest g c =
-    keeps_pulse c.args.self.now.constants c.pass.inside.seat.me.0 c.take-state.result c.post-answer.new.self c.take-state.new.seat.me c.take-state.ensures.taken c.post-answer.ensures.stamp (posted_waits c.take-state.result c.post-answer.new.self c.args.asked.phase c.args.asked.due c.args.asked.id c.args.asked.token c.args.now c.post-answer.result c.post-answer.ensures.after c.post-answer.ensures.err).awaits c.post-answer.ensures.quiet.1
-
-pub give-requires-clause-asks : goal.give-requires-clause-asks
-give-requires-clause-asks g c = (posted_waits c.take-state.result c.post-answer.new.self c.args.asked.phase c.args.asked.due c.args.asked.id c.args.asked.token c.args.now c.post-answer.result c.post-answer.ensures.after c.post-answer.ensures.err).asks c.args.self.now.constants c.take-state.ensures.found.asks

@@ -11,6 +11,18 @@ use Rattle.choreographer.proofs.Waits.{pulsed_asks}
 use Rattle.choreographer.proofs.Pulsing.{pulse_awaits}
 use Rattle.choreographer.proofs.state.Choreographer.pulse_turn.Goals as goal
 
+pub give-requires-clause-leaves : goal.give-requires-clause-leaves
+give-requires-clause-leaves g c = record {
+  state = search rules;
+  stamped = (
+      let e = c.deliver-pulse.ensures in stamped_pulse c.take-state.result c.deliver-pulse.new.self c.take-state.ensures.found.stamped c.args.now c.deliver-pulse.result (search rules) e.pulse e.after);
+  handed = search rules;
+  latest = subst (λ (z : Sat). MayPulse c.args.self.now.constants z.0 c.deliver-pulse.new.self) (sym c.take-state.ensures.taken)
+      (may_pulse c.args.self.now.constants c.pass.inside.seat.me.0 c.take-state.result c.deliver-pulse.new.self c.take-state.new.seat.me.0.heard c.pass.inside.number c.pass.invariant.2
+      (λ n named. ap (λ (p : Known). p.number) c.pass.view_is ∙ c.requires.delivers n named));
+  asks = pulsed_asks c.take-state.result c.deliver-pulse.new.self c.args.self.now.constants c.deliver-pulse.result c.deliver-pulse.ensures.after c.take-state.ensures.found.asks;
+}
+
 pub returns-clause-turn : goal.returns-clause-turn
 returns-clause-turn g c =
     let x = c.take-state.result in
@@ -24,12 +36,6 @@ returns-clause-turn g c =
       search rules,
     )
 
-pub give-requires-clause-latest : goal.give-requires-clause-latest
-give-requires-clause-latest g c =
-    subst (λ (z : Sat). MayPulse c.args.self.now.constants z.0 c.deliver-pulse.new.self) (sym c.take-state.ensures.taken)
-    (may_pulse c.args.self.now.constants c.pass.inside.seat.me.0 c.take-state.result c.deliver-pulse.new.self c.take-state.new.seat.me.0.heard c.pass.inside.number c.pass.invariant.2
-    (λ n named. ap (λ (p : Known). p.number) c.pass.view_is ∙ c.requires.delivers n named))
-
 pub returns-clause-pulse : goal.returns-clause-pulse
 unfolding returns-clause-turn
 returns-clause-pulse g c =
@@ -40,11 +46,3 @@ returns-clause-pulse g c =
       awaits = pulse_awaits c.args.pass.now _ t.0 t.1 c.args.now c.deliver-pulse.result t.2
           (λ k e. subst (λ (q : Constants). AsksIfScheduled q c.take-state.result) (same_key c.args.self.now.constants k c.args.pass.now.view.constants c.requires.pass.1 e) c.take-state.ensures.found.asks) t.3 t.4;
     }
-
-pub give-requires-clause-asks : goal.give-requires-clause-asks
-give-requires-clause-asks g c =
-    pulsed_asks c.take-state.result c.deliver-pulse.new.self c.args.self.now.constants c.deliver-pulse.result c.deliver-pulse.ensures.after c.take-state.ensures.found.asks
-
-pub give-requires-clause-stamped : goal.give-requires-clause-stamped
-give-requires-clause-stamped g c =
-    let e = c.deliver-pulse.ensures in stamped_pulse c.take-state.result c.deliver-pulse.new.self c.take-state.ensures.found.stamped c.args.now c.deliver-pulse.result (search rules) e.pulse e.after

@@ -5,10 +5,16 @@ use Rattle.choreographer.proofs.Stamps.{stamped_removed}
 use Rattle.choreographer.proofs.Waits.{removed_waits}
 use Rattle.choreographer.proofs.state.Choreographer.remove_callbacks.Goals as goal
 
-pub give-requires-clause-stamped : goal.give-requires-clause-stamped
-give-requires-clause-stamped g c =
-    let e = c.remove-answer.ensures in
-    stamped_removed c.take-state.result c.remove-answer.new.self c.take-state.ensures.found.stamped c.args.phase c.args.id c.args.token c.remove-answer.result e.after e.err e.quiet e.stamp
+pub give-requires-clause-leaves : goal.give-requires-clause-leaves
+give-requires-clause-leaves g c = record {
+  state = search rules;
+  stamped = (
+      let e = c.remove-answer.ensures in
+      stamped_removed c.take-state.result c.remove-answer.new.self c.take-state.ensures.found.stamped c.args.phase c.args.id c.args.token c.remove-answer.result e.after e.err e.quiet e.stamp);
+  handed = search rules;
+  latest = keeps_pulse c.args.self.now.constants c.pass.inside.seat.me.0 c.take-state.result c.remove-answer.new.self c.take-state.new.seat.me c.take-state.ensures.taken c.remove-answer.ensures.stamp (removed_waits c.take-state.result c.remove-answer.new.self c.args.phase c.args.id c.args.token c.remove-answer.result c.remove-answer.ensures.after c.remove-answer.ensures.err).awaits c.remove-answer.ensures.quiet.1;
+  asks = (removed_waits c.take-state.result c.remove-answer.new.self c.args.phase c.args.id c.args.token c.remove-answer.result c.remove-answer.ensures.after c.remove-answer.ensures.err).asks c.args.self.now.constants c.take-state.ensures.found.asks;
+}
 
 pub returns : goal.returns
 returns g c =
@@ -23,10 +29,3 @@ returns g c =
       search rules,
       search rules,
     )
-
-pub give-requires-clause-latest : goal.give-requires-clause-latest
-give-requires-clause-latest g c =
-    keeps_pulse c.args.self.now.constants c.pass.inside.seat.me.0 c.take-state.result c.remove-answer.new.self c.take-state.new.seat.me c.take-state.ensures.taken c.remove-answer.ensures.stamp (removed_waits c.take-state.result c.remove-answer.new.self c.args.phase c.args.id c.args.token c.remove-answer.result c.remove-answer.ensures.after c.remove-answer.ensures.err).awaits c.remove-answer.ensures.quiet.1
-
-pub give-requires-clause-asks : goal.give-requires-clause-asks
-give-requires-clause-asks g c = (removed_waits c.take-state.result c.remove-answer.new.self c.args.phase c.args.id c.args.token c.remove-answer.result c.remove-answer.ensures.after c.remove-answer.ensures.err).asks c.args.self.now.constants c.take-state.ensures.found.asks

@@ -10,13 +10,18 @@ use Rattle.choreographer.proofs.Quiet.{grows_self}
 use Rattle.choreographer.proofs.Waits.{sealed_waits}
 use Rattle.choreographer.proofs.state.Choreographer.seal.Goals as goal
 
-pub give-requires-clause-stamped : goal.give-requires-clause-stamped
-give-requires-clause-stamped g c =
-    stamped_sealed c.take-state.result c.seal-answer.new.self c.take-state.ensures.found.stamped c.seal-answer.result c.seal-answer.ensures.seals c.seal-answer.ensures.stamp
-
-pub give-requires-clause-state : goal.give-requires-clause-state
-give-requires-clause-state g c =
-    (search rules, same_gives c.take-state.new.seat.me.0 c.take-state.result c.seal-answer.new.self (search rules) c.seal-answer.ensures.quiet.1)
+pub give-requires-clause-leaves : goal.give-requires-clause-leaves
+give-requires-clause-leaves g c = record {
+  state = (search rules, same_gives c.take-state.new.seat.me.0 c.take-state.result c.seal-answer.new.self (search rules) c.seal-answer.ensures.quiet.1);
+  stamped = stamped_sealed c.take-state.result c.seal-answer.new.self c.take-state.ensures.found.stamped c.seal-answer.result c.seal-answer.ensures.seals c.seal-answer.ensures.stamp;
+  handed = (
+      let x = c.take-state.result in
+      subst (λ (z : Sat). MaySeal c.args.self.now.constants z.0 c.seal-answer.new.self) (sym c.take-state.ensures.taken)
+      (may_seal c.args.self.now.constants c.pass.inside.seat.me.0 x c.seal-answer.new.self c.take-state.new.seat.me.0.heard c.pass.inside.number c.pass.invariant.2 (ap (λ (p : Known). p.number + 1) c.pass.view_is ∙ c.requires.last) (hands_more x.frames c.seal-answer.new.self.frames c.seal-answer.result c.seal-answer.ensures.seals)));
+  latest = keeps_pulse c.args.self.now.constants c.pass.inside.seat.me.0 c.take-state.result c.seal-answer.new.self c.take-state.new.seat.me c.take-state.ensures.taken c.seal-answer.ensures.stamp (sealed_waits c.take-state.result c.seal-answer.new.self c.seal-answer.result c.seal-answer.ensures.seals).awaits
+      (subst (GrowsQuietly c.take-state.result.frames.entries) (sym c.seal-answer.ensures.quiet.1) (grows_self c.take-state.result.frames.entries));
+  asks = (sealed_waits c.take-state.result c.seal-answer.new.self c.seal-answer.result c.seal-answer.ensures.seals).asks c.args.self.now.constants c.take-state.ensures.found.asks;
+}
 
 pub returns : goal.returns
 returns g c =
@@ -36,17 +41,3 @@ returns g c =
       c.take-state.ensures.found.handed (let one = holds_last c.args.self.now.constants c.pass.inside.seat.me.0 c.pass.inside.number c.pass.invariant.2 (ap (λ (p : Known). p.number + 1) is ∙ c.requires.last) in omega (arith, one)) ∙ ap (λ (p : Known). p.view.handed) is,
       part_handed c.args.pass.now x.frames y.frames c.seal-answer.result c.seal-answer.ensures.seals _ turn.handed,
     )
-
-pub give-requires-clause-handed : goal.give-requires-clause-handed
-give-requires-clause-handed g c =
-    let x = c.take-state.result in
-    subst (λ (z : Sat). MaySeal c.args.self.now.constants z.0 c.seal-answer.new.self) (sym c.take-state.ensures.taken)
-    (may_seal c.args.self.now.constants c.pass.inside.seat.me.0 x c.seal-answer.new.self c.take-state.new.seat.me.0.heard c.pass.inside.number c.pass.invariant.2 (ap (λ (p : Known). p.number + 1) c.pass.view_is ∙ c.requires.last) (hands_more x.frames c.seal-answer.new.self.frames c.seal-answer.result c.seal-answer.ensures.seals))
-
-pub give-requires-clause-latest : goal.give-requires-clause-latest
-give-requires-clause-latest g c =
-    keeps_pulse c.args.self.now.constants c.pass.inside.seat.me.0 c.take-state.result c.seal-answer.new.self c.take-state.new.seat.me c.take-state.ensures.taken c.seal-answer.ensures.stamp (sealed_waits c.take-state.result c.seal-answer.new.self c.seal-answer.result c.seal-answer.ensures.seals).awaits
-    (subst (GrowsQuietly c.take-state.result.frames.entries) (sym c.seal-answer.ensures.quiet.1) (grows_self c.take-state.result.frames.entries))
-
-pub give-requires-clause-asks : goal.give-requires-clause-asks
-give-requires-clause-asks g c = (sealed_waits c.take-state.result c.seal-answer.new.self c.seal-answer.result c.seal-answer.ensures.seals).asks c.args.self.now.constants c.take-state.ensures.found.asks

@@ -2,8 +2,20 @@ use Rattle.std.proofs.Common.{rules, sym, ap, ◌∙◌, subst}
 use Rattle.choreographer.specs.Plays.{Sat, MayPulse}
 use Rattle.choreographer.specs.Known.{Known}
 use Rattle.choreographer.proofs.ByTurn.{turned, may_pulse}
+use Rattle.choreographer.proofs.Stamps.{stamped_take}
 use Rattle.choreographer.proofs.Waits.{taken_waits}
 use Rattle.choreographer.proofs.state.Choreographer.take_turn.Goals as goal
+
+pub give-requires-clause-leaves : goal.give-requires-clause-leaves
+give-requires-clause-leaves g c = record {
+  state = search rules;
+  stamped = stamped_take c.take-state.result c.take-answer.new.self c.take-state.ensures.found.stamped c.args.phase c.args.now c.take-answer.result c.take-answer.ensures.takes c.take-answer.ensures.stamp;
+  handed = search rules;
+  latest = subst (λ (z : Sat). MayPulse c.args.self.now.constants z.0 c.take-answer.new.self) (sym c.take-state.ensures.taken)
+      (may_pulse c.args.self.now.constants c.pass.inside.seat.me.0 c.take-state.result c.take-answer.new.self c.take-state.new.seat.me.0.heard c.pass.inside.number c.pass.invariant.2
+      (λ n named. ap (λ (p : Known). p.number) c.pass.view_is ∙ c.requires.delivers n named));
+  asks = (taken_waits c.take-state.result c.take-answer.new.self c.args.phase c.args.now c.take-answer.result c.take-answer.ensures.takes).asks c.args.self.now.constants c.take-state.ensures.found.asks;
+}
 
 pub returns : goal.returns
 returns g c =
@@ -18,12 +30,3 @@ returns g c =
       search rules,
       search rules,
     )
-
-pub give-requires-clause-latest : goal.give-requires-clause-latest
-give-requires-clause-latest g c =
-    subst (λ (z : Sat). MayPulse c.args.self.now.constants z.0 c.take-answer.new.self) (sym c.take-state.ensures.taken)
-    (may_pulse c.args.self.now.constants c.pass.inside.seat.me.0 c.take-state.result c.take-answer.new.self c.take-state.new.seat.me.0.heard c.pass.inside.number c.pass.invariant.2
-    (λ n named. ap (λ (p : Known). p.number) c.pass.view_is ∙ c.requires.delivers n named))
-
-pub give-requires-clause-asks : goal.give-requires-clause-asks
-give-requires-clause-asks g c = (taken_waits c.take-state.result c.take-answer.new.self c.args.phase c.args.now c.take-answer.result c.take-answer.ensures.takes).asks c.args.self.now.constants c.take-state.ensures.found.asks

@@ -2,6 +2,7 @@ use Rattle.std.proofs.Common.{◌≡◌, ◌<◌, ℕ, ◌+◌, get_or, replicat
 use Rattle.std.specs.List.{remove}
 use Rattle.std.proofs.lemmas.List.Edits.{get_or-remove_above}
 use Rattle.choreographer.specs.Known.{Known as Pass}
+use Rattle.choreographer.specs.Turn.{entries_of}
 use Rattle.looper_run.specs.Holding.{Sender, Holding}
 use Rattle.dash_hall.specs.Kits.{AreUnseen, frame_badge_of, frame_badge_for}
 use Rattle.std.proofs.lemmas.Option.{same_Some}
@@ -54,6 +55,7 @@ returns c =
     let none = subst (λ (p : Sender). p.view.seen ≡ []) (sym c.remove-poster.ensures.value) (unused.posters c.args.number c.remove-poster.result many) in
     let unheard_at : (i : ℕ) (p : Pass) → i < 2 → p ≡ get_or ps i p → HasHeardAll [] p = λ i p lt e.
     subst (HasHeardAll []) (sym e) (unheard_all (get_or ps i p) (unused.heard i p (omega (arith, two, lt))) (unused.frames i p (omega (arith, two, lt))) (unused.own i p (omega (arith, two, lt)))) in
+    let first = unheard_at 0 c.remove-own_frames.result (omega arith) c.remove-own_frames.ensures.value in
     record {
       begins = record {
         looper = looper_begins s hall c.args.number kit _ c.make.result c.remove-poster.result _ of c.requires.kit unused
@@ -68,10 +70,10 @@ returns c =
             c.in_ok-new.ensures.still c.in_ok-new.ensures.gauges c.in_ok-new.ensures.rest.0 c.in_ok-new.ensures.rest.1 c.in_ok-new.ensures.rest.2
             (subst AreUnseen (sym c.remove-poster.ensures.items) (unseen_without kit.posters.items c.args.number many unused.posters))
             (c.in_ok-vec.ensures.items_if_clones_equal (λ y same. same) ∙ ap (λ (n : ℕ). replicate n 0) c.len.ensures)
-            (ap (λ (p : Pass). p.view.own) c.in_ok-new.ensures.pass ∙ unasked) (ap (λ (p : Pass). p.view.turns) c.in_ok-new.ensures.pass ∙ untaken) unrun unpulsed refl;
+            (ap (λ (p : Pass). p.view.own) c.in_ok-new.ensures.pass ∙ unasked) (ap (λ (p : Pass). p.view.turns) c.in_ok-new.ensures.pass ∙ untaken) unrun unpulsed refl (sym first.0.seen ∙ ap entries_of first.1);
         nothing = record { acts = ap (λ (h : Holding). h.journal.acts) held; idle_owed = c.make.ensures.flags.0; pass = ap (λ (h : Holding). h.pass) held };
         unheard = λ r is. subst (λ (z : Rest). HasHeardAll [] z.frames × HasHeardAll [] z.root.pass) (same_Some _ _ is) (
-          unheard_at 0 c.remove-own_frames.result (omega arith) c.remove-own_frames.ensures.value,
+          first,
           subst (HasHeardAll []) (sym c.in_ok-new.ensures.pass) (unheard_at 1 c.remove-client.result (omega arith) second),
         );
       };

@@ -4,6 +4,7 @@ use Rattle.dash_hall.specs.declared.uptime.Still.{Still}
 use Rattle.dash_hall.specs.Hosts.{origin_now}
 use Rattle.frame_phases.specs.Pulses.{is_pulse_if_any}
 use Rattle.choreographer.specs.Calls.{stamp_in}
+use Rattle.choreographer.proofs.InTime.{pulse_quiet}
 use Rattle.dash_loopers.proofs.LooperPlaces.{its_period, may_deliver}
 use Rattle.dash_loopers.proofs.LatestPulses.{gets_latest, comes_later, pulse_may_await, pulse_waits}
 use Rattle.dash_loopers.proofs.PlaySteps.{pulse_here, pulse_hosted}
@@ -51,6 +52,7 @@ returns-clause-next g c =
       is_pulse = subst (λ (n : ℕ). is_pulse_if_any n (stamp_in c.deliver-pulse.result) ≡ true) period c.deliver-pulse.ensures.latest.is_pulse;
       later = comes_later before c.deliver-pulse.new.pass (stamp_in c.deliver-pulse.result) c.deliver-pulse.ensures.latest.later c.deliver-pulse.ensures.latest.awaits;
       got = gets_latest before c.deliver-pulse.new.pass (stamp_in c.deliver-pulse.result) c.deliver-pulse.ensures.pass c.deliver-pulse.ensures.latest.stamp c.deliver-pulse.ensures.latest.awaits;
+      quiet = pulse_quiet before c.deliver-pulse.new.pass (λ n. n == nanos_of c.host-host.result.uptime.now.now) _ _ c.deliver-pulse.result c.deliver-pulse.ensures.pulse;
       waits = pulse_waits c.deliver-pulse.result c.args.parts.now.awaits c.is_some.result c.is_some.ensures;
     }
 

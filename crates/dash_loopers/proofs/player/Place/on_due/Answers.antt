@@ -3,6 +3,8 @@ use Rattle.std.specs.Prelude.{◌==◌}
 use Rattle.choreographer.specs.Calls.{DueBy}
 use Rattle.choreographer.proofs.Recorded.{due_records}
 use Rattle.run_model.specs.FrameRecords.{asks_in, nanos_of}
+use Rattle.choreographer.proofs.Quiet.{grows_self}
+use Rattle.choreographer.proofs.InTime.{due_quiet}
 use Rattle.loop_model.proofs.Prefixes.{prefix_self}
 use Rattle.dash_hall.specs.declared.uptime.Still.{Still}
 use Rattle.dash_hall.specs.Hosts.{origin_now}
@@ -48,7 +50,7 @@ pub returns-then-phase-phases-clause-leaves : goal.returns-then-phase-phases-cla
 returns-then-phase-phases-clause-leaves g c = queue_left c.args.now c.args.parts.now c.args.own.now
 
 pub returns-then-phase-phases-clause-asks : goal.returns-then-phase-phases-clause-asks
-returns-then-phase-phases-clause-asks g c = record { seen = prefix_self c.args.parts.now.frames.view.seen; asks = refl; latest = λ stamp waits has. has }
+returns-then-phase-phases-clause-asks g c = record { seen = prefix_self c.args.parts.now.frames.view.seen; asks = refl; latest = λ stamp waits has. has; quiet = λ k e named. grows_self c.args.parts.now.frames.view.seen }
 
 pub returns-clause-leaves : goal.returns-clause-leaves
 returns-clause-leaves g c =
@@ -74,4 +76,5 @@ returns-clause-asks g c =
       seen = c.on_due.ensures.seen;
       asks = ap asks_in (due_records before c.on_due.new.pass (λ n. n == nanos_of now) c.args.phase c.on_due.result c.on_due.ensures.due);
       latest = due_keeps_latest before c.on_due.new.pass (λ n. n == nanos_of now) c.args.phase c.on_due.result c.on_due.ensures.due;
+      quiet = due_quiet before c.on_due.new.pass (λ n. n == nanos_of now) c.args.phase c.on_due.result c.on_due.ensures.due;
     }

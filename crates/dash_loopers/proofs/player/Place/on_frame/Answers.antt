@@ -14,7 +14,7 @@ returns-in-2-clause-delivers g c =
     let old = c.args.own.now in
     let own = c.on_due.new.own in
     step_delivered s q c.args.now (g.U.Uptime.is_moment c.args.uptime.now) m (calls_of old.poster.now) (calls_of own.poster.now) c.args.parts.now c.on_due.new.parts old.journal.now.acts own.journal.now.acts (λ a. a) c.on_due.ensures.asks.seen c.on_due.ensures.asks.asks
-    (waits_still q m c.args.parts.now c.on_due.new.parts (starts_quiet q m c.args.parts.now.awaits (λ e. omega (arith, e, c.in-2.is))) c.on_due.ensures.asks.latest c.on_due.ensures.awaits)
+    (waits_still q m c.args.parts.now c.on_due.new.parts (starts_quiet q m c.args.parts.now.awaits (λ e. omega (arith, e, c.in-2.is))) c.on_due.ensures.asks.latest c.on_due.ensures.awaits) c.on_due.ensures.asks.latest c.on_due.ensures.asks.quiet
     (λ a. delivered_quiet s q c.args.now m a c.requires.callback c.requires.handler (λ e. omega (arith, e, c.in-2.is))) (λ a. refl) c.on_due.ensures.plays c.on_due.ensures.tells.acts
 
 pub returns-in_default-clause-delivers : goal.returns-in_default-clause-delivers
