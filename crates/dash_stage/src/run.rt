@@ -29,7 +29,6 @@ pub enum Ran {
 /// of a message that may be dispatched and the pulse of a frame; at each the controller moves the queues' time on, the threads
 /// run the block of that time side by side, and the loopers run rounds side by side until nothing is due. The script has a text. It
 /// is refused only for want of memory. Lockstep is this project's profile.
-#[tactic(auto, using(crate::proofs::BlockTimes::Limits::playable))]
 pub fn run_script<R: Threads + Wait + Sync, G: Gate + Sync>(
     rt: &R,
     alloc: Global,
@@ -48,7 +47,6 @@ pub fn run_script<R: Threads + Wait + Sync, G: Gate + Sync>(
 }
 
 /// The stage after the run.
-#[tactic(auto, using(crate::proofs::BlockTimes::Limits::playable))]
 fn played<R: Threads + Wait + Sync, G: Gate + Sync>(
     means: &Means<R, G>,
     script: &Script,

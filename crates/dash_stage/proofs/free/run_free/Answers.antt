@@ -1,7 +1,13 @@
 use Rattle.std.proofs.Common.{subst}
 use Rattle.run_model.specs.Moments.{in_free_mode}
 use Rattle.dash_stage.specs.RunEnds.{HasEndedByClock}
+use Rattle.dash_stage.proofs.Sharing.StageShares.{stage_in_its_mode}
 use Rattle.dash_stage.proofs.free.run_free.Goals as goal
+
+pub report_by_clock-requires : goal.report_by_clock-requires
+report_by_clock-requires g c =
+    let out = c.in-Ok.ensures.out in
+    record { stage = stage_in_its_mode c.args.script c.in-Ok.stage out.out.stage; ended = out.ran.ended; on = out.ran.on }
 
 pub returns : goal.returns
 returns g c =

@@ -6,9 +6,6 @@ use Rattle.dash_stage.proofs.Moves.MovesRecords.{moved_at_start}
 use Rattle.dash_stage.proofs.Played.InTurn.{turn_later}
 use Rattle.dash_stage.proofs.run.played.Goals as goal
 
-pub give_up-requires-clause-some : goal.give_up-requires-clause-some
-give_up-requires-clause-some g c κs within = (playable c.args.script.now c.requires).loopers
-
 pub play-requires-clause-begun : goal.play-requires-clause-begun
 play-requires-clause-begun g c κs within =
     let s = c.args.script.now in
