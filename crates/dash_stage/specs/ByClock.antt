@@ -1,5 +1,6 @@
 -- What the senders of a run do by a clock.
-use Rattle.std.specs.Prelude.{◌≡◌, ℕ, Bool, true, false, ◌<◌, List, length, slice_index_or, Option, Some, None}
+use Rattle.std.specs.Prelude.{◌≡◌, ℕ, Bool, true, false, ◌<◌, ◌≤◌, List, length, slice_index_or, Option, Some, None}
+use Rattle.loop_io.specs.Moments.{IsMoment}
 use Rattle.looper_run.specs.Round.{is_ended}
 use Rattle.looper_run.specs.declared.by_clock.Loop.{Loop}
 use Rattle.dash_script.specs.declared.script.Script.{Script}
@@ -8,15 +9,15 @@ use Rattle.run_model.specs.ByClock.{in_free_mode}
 use Rattle.dash_hall.specs.declared.hall.Hall.{Hall}
 use Rattle.dash_hall.specs.declared.timer.Timer.{Timer}
 use Rattle.dash_threads.specs.declared.thread.PostingThread.{PostingThread}
-use Rattle.dash_threads.specs.Threads.{IsThread, AreByClock, RunsAll}
+use Rattle.dash_threads.specs.Threads.{IsThread, AreByClock, RunsAll, ThreadKeeps}
 use Rattle.dash_loopers.specs.declared.looper.StageLooper.{StageLooper}
 use Rattle.dash_loopers.specs.Loopers.{IsLooper}
 use Rattle.dash_loopers.specs.Looped.{GoesOnFrom, HasGoneRound, LoopsOnce, LoopsUpTo, ends_at, HasLooped}
 use Rattle.dash_script.specs.Reading.{HasText}
 use Rattle.dash_hall.specs.Kits.{IsHall}
-use Rattle.dash_hall.specs.Hearing.{AtEach, HaveHeard}
+use Rattle.dash_hall.specs.Hearing.{AtEach, HaveHeard, AreKept}
 use Rattle.dash_stage.specs.declared.control.Controller.{Controller}
-use Rattle.dash_stage.specs.BehindThreads.{SeesMore, CallsBehindThreads}
+use Rattle.dash_stage.specs.BehindThreads.{SeesMore, HasHeardThreads, CallsBehindThreads}
 use Rattle.dash_stage.specs.GivingUp.{HaveBeenRung}
 use Rattle.dash_stage.specs.Sharing.{ControllerKeeps}
 use Rattle.dash_stage.specs.Stages.{AreThreads, AreLoopers}
@@ -110,11 +111,15 @@ pub record RunBeside (m : Mode) (s : Script) (hall : Hall) (threads threads' : L
   pub ran : EachRuns m s hall threads threads'
   pub loops : EachLoops m s hall loopers loopers'
 
--- the threads and main ran beside each other, main up to the script's end where no look stopped it
-pub record RanMain {L : Type 0} (m : Mode) (s : Script) (hall : Hall) (ts ts' : List PostingThread) (main main' : List StageLooper)
-    (look : Option L) : Type 0 where
+-- the threads and main ran beside each other, main up to the script's end where the run went well
+pub record RanMain (m : Mode) (s : Script) (hall : Hall) (ts ts' : List PostingThread) (main main' : List StageLooper) (Well : Type 0) : Type 0 where
   pub beside : RunBeside m s hall ts ts' main main'
-  pub looped : look ≡ None → MainLoops m s hall main main'
+  pub looped : Well → MainLoops m s hall main main'
+
+-- the threads and the loopers ran beside each other, and the loopers looped up to their ends where the run went well
+pub record RanBeside (m : Mode) (s : Script) (hall : Hall) (ts ts' : List PostingThread) (ls ls' : List StageLooper) (done : Bool) : Type 0 where
+  pub beside : RunBeside m s hall ts ts' ls ls'
+  pub looped : done ≡ true → LoopSideBySide m s ls ls'
 
 -- the controller has heard the threads, behind whose calls its own stand
 pub record HearsThreads (s : Script) (ts : List PostingThread) (before after : Controller) : Type 0 where
@@ -127,6 +132,12 @@ pub record EndsOthers (m : Mode) (s : Script) (hall : Hall) (ts : List PostingTh
   pub behind : done ≡ true → CallsBehindThreads s ts after
   pub rung : done ≡ false → HaveBeenRung s.loopers before after
 
+-- it quit the loopers but main, which no look had stopped; or the run was given up, and all bells were rung
+pub record HasQuitOthers {L : Type 0} (look : Option L) (m : Mode) (s : Script) (hall : Hall) (before after : Controller) (done : Bool) : Type 0 where
+  pub heeds : done ≡ true → look ≡ None
+  pub quit : done ≡ true → QuitsOthers m s hall before after
+  pub rung : done ≡ false → HaveBeenRung s.loopers before after
+
 -- what the senders need to run side by side
 pub record CanRunBeside (s : Script) (h : Hall) (ts : List PostingThread) (ls : List StageLooper) (c : Controller) : Type 0 where
   pub text : HasText s
@@ -136,6 +147,29 @@ pub record CanRunBeside (s : Script) (h : Hall) (ts : List PostingThread) (ls : 
   pub loopers : AreLoopers s h ls
   pub controller : IsControllerIn false s h c
   pub none : (q : ℕ) → CallsNothingOn c q
+
+-- what threads need to run
+pub record CanRunThreads (s : Script) (h : Hall) (ts : List PostingThread) : Type 0 where
+  pub text : HasText s
+  pub hall : IsFreeHall s h
+  pub threads : EachIsThread s h ts
+
+-- what a looper needs to run alone
+pub record CanRunFirst (s : Script) (h : Hall) (ls : List StageLooper) : Type 0 where
+  pub hall : IsFreeHall s h
+  pub one : length ls ≡ 1
+  pub loopers : EachIsLooper s h ls
+
+-- what the main looper needs to drain
+pub record CanDrain (s : Script) (h : Hall) (ls : List StageLooper) : Type 0 where
+  pub some : 0 < s.loopers
+  pub hall : IsFreeHall s h
+  pub loopers : AreLoopers s h ls
+
+-- a moment of the clock, the end of the script or later
+pub record IsLateMoment (shows : ℕ → Bool) (start : ℕ) (s : Script) (now : ℕ) : Type 0 where
+  pub moment : IsMoment shows start now
+  pub late : s.end ≤ now
 
 -- what the main looper and the threads need to run, and the controller behind them
 pub record CanRunMain (s : Script) (h : Hall) (ls : List StageLooper) (ts : List PostingThread) (c : Controller) : Type 0 where
@@ -154,3 +188,15 @@ pub record CanQuitOthers (s : Script) (h : Hall) (c : Controller) : Type 0 where
   pub hall : IsFreeHall s h
   pub controller : IsControllerIn false s h c
   pub none : (q : ℕ) → CallsNothingOn c q
+
+-- what the controller needs to hear the threads
+pub record CanHearThreads (s : Script) (hall : Hall) (ts : List PostingThread) (c : Controller) : Type 0 where
+  pub is_hall : IsHall s hall
+  pub threads : EachIsThread s hall ts
+  pub controller : IsControllerIn false s hall c
+
+-- the controller's posters have heard those of the threads, and have seen all that these have
+pub record HearsAllThreads (ts ts' : List PostingThread) (before after : Controller) : Type 0 where
+  pub threads : AtEach (ThreadKeeps AreKept) ts ts'
+  pub controller : ControllerKeeps HaveHeard before after
+  pub heard : HasHeardThreads ts' after

@@ -1,12 +1,76 @@
--- What each step of the controller leaves, in lockstep and by a clock.
-use Rattle.std.specs.Prelude.{◌≡◌, ◌≤◌, ◌+◌, ℕ, Bool, true, false}
+-- What each step of the controller asks for and leaves, in lockstep and by a clock.
+use Rattle.std.specs.Prelude.{◌≡◌, ◌≤◌, ◌+◌, ℕ, Bool, true, false, Option, Some}
+use Rattle.atomic_table.specs.Seated.{TableId}
+use Rattle.message_pool.specs.Passes.{Tally}
+use Rattle.shared_queue.specs.Known.{Shared, IsOf}
 use Rattle.dash_script.specs.declared.script.Script.{Script}
 use Rattle.looper_run.specs.Holding.{Sender}
-use Rattle.run_model.specs.Control.{ends_halted}
+use Rattle.choreographer.specs.Known.{Shared as Frames, Known as Pass, IsOf as IsOfFrames}
+use Rattle.run_model.specs.Control.{ends_halted, IsPulseTime}
+use Rattle.dash_hall.specs.declared.hall.Hall.{Hall}
 use Rattle.dash_stage.specs.declared.control.Controller.{Controller}
-use Rattle.dash_stage.specs.Controllers.{IsMoving, HasReached, IsQuitting, HasClosedIn, AtPoster}
+use Rattle.dash_stage.specs.Controllers.{IsController, IsControllerIn, CanTurn, TurnsAlone, CallsNone, LooksFor, OtherPassesStay}
+use Rattle.dash_stage.specs.Controllers.{IsMoving, HasReached, IsQuitting, HasClosedIn, AtPoster, calls_on, time_in}
 use Rattle.dash_stage.specs.Playing.{IsStuck, AreStuck}
-use Rattle.dash_stage.specs.Timeliness.{whole_on, AreBy, TurnsOn, EachTurnsOn, MovesTo, MovesNot, HaveCome, HasComeOn}
+use Rattle.dash_stage.specs.Timeliness.{whole_on, AreBy, TurnsOn, EachTurnsOn, IsNone, Halts, MovesTo, MovesNot, HaveCome, HasComeOn}
+
+-- the controller may move the time of the queue at this place on to this one
+pub record CanMove (s : Script) (hall : Hall) (place now : ℕ) (c : Controller) : Type 0 where
+  pub at : CanTurn true s hall place c
+  pub within : now ≤ s.end
+  pub moving : IsMoving s c
+
+-- it may quit the queue at this place, as those below
+pub record CanQuit (s : Script) (hall : Hall) (place : ℕ) (c : Controller) : Type 0 where
+  pub at : CanTurn true s hall place c
+  pub quitting : IsQuitting s place c
+
+-- so it may, and the queue's time has come to the end
+pub record CanQuitAtEnd (s : Script) (hall : Hall) (place : ℕ) (c : Controller) : Type 0 where
+  pub at : CanTurn true s hall place c
+  pub quitting : IsQuitting s place c
+  pub time : (d : Sender) → s.end ≤ time_in (calls_on c place d)
+
+-- this poster may quit its queue, whose messages go back to the pool by this pass
+pub record CanQuitBy (q : Shared TableId) (p : Sender) (pool : TableId) (pass : Tally) : Type 0 where
+  pub poster : IsOf p q
+  pub of_pool : pass.home ≡ pool
+  pub home : q.constants.home ≡ pool
+
+-- this poster, the last of its queue, may have it hand its entries out
+pub record CanHandOut (p : Sender) (q : Shared TableId) : Type 0 where
+  pub poster : IsOf p q
+  pub last : p.sender + 1 ≡ q.constants.setting.senders
+
+-- this pass, the last of its choreographer, may have it hand its entries out
+pub record CanHandOutFrames (p : Pass) (c : Frames) : Type 0 where
+  pub pass : IsOfFrames p c
+  pub last : p.number + 1 ≡ c.constants.passes
+  pub seals : c.constants.seals ≡ true
+
+-- it is the script's controller still, and has called nothing
+pub record StaysIdle (lockstep : Bool) (s : Script) (hall : Hall) (before after : Controller) : Type 0 where
+  pub controller : IsControllerIn lockstep s hall after
+  pub none : CallsNone before after
+
+-- so it is, by turns on the queue at this place alone
+pub record TurnsIdle (lockstep : Bool) (s : Script) (hall : Hall) (place : ℕ) (before after : Controller) : Type 0 where
+  pub alone : TurnsAlone lockstep s hall place before after
+  pub none : CallsNone before after
+  pub here : AtPoster (TurnsOn IsNone) place before after
+
+-- it is the script's controller still, and its posters are as before
+pub record KeepsPosters (s : Script) (hall : Hall) (before after : Controller) : Type 0 where
+  pub controller : IsController s hall after
+  pub posters : after.kit.posters ≡ before.kit.posters
+
+-- it found this pulse of a looper, in milliseconds rounded up, or none; it is the script's controller still, and its posters and other passes are as before
+pub record HasLookedFor (s : Script) (hall : Hall) (looper : ℕ) (before after : Controller) (found : Option ℕ) : Type 0 where
+  pub controller : IsController s hall after
+  pub posters : after.kit.posters ≡ before.kit.posters
+  pub pulse : (time : ℕ) → found ≡ Some time → IsPulseTime s.period time
+  pub look : LooksFor looper before after found
+  pub elsewhere : OtherPassesStay looper before after
 
 -- it has only moved the time so far, main's time did not fall, and it moved no queue past this time
 pub record KeepsPace (s : Script) (now : ℕ) (before after : Controller) : Type 0 where
@@ -37,3 +101,10 @@ pub record QuitsAt (s : Script) (place : ℕ) (before after : Controller) : Type
 pub record HasHaltedMain (lockstep : Bool) (s : Script) (c : Controller) : Type 0 where
   pub closed : HasClosedIn lockstep s c
   pub halted : (d : Sender) → ends_halted (whole_on c 0 d) ≡ true
+
+-- it tried to halt main: that was done, or it may be tried again
+pub record TriesToHalt (lockstep : Bool) (MayTry : Controller → Type 0) (s : Script) (hall : Hall) (before after : Controller) (halted : Bool) : Type 0 where
+  pub controller : IsControllerIn lockstep s hall after
+  pub turns : EachTurnsOn Halts before after
+  pub going : halted ≡ false → MayTry after
+  pub closed : halted ≡ true → HasHaltedMain lockstep s after

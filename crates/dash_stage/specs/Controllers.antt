@@ -57,6 +57,11 @@ pub record CanTurn (lockstep : Bool) (s : Script) (hall : Hall) (place : ℕ) (c
   pub controller : IsControllerIn lockstep s hall c
   pub known : place < s.loopers
 
+-- the controller of the script, in the script's hall
+pub record Controls (lockstep : Bool) (s : Script) (hall : Hall) (c : Controller) : Type 0 where
+  pub is_hall : IsHall s hall
+  pub controller : IsControllerIn lockstep s hall c
+
 -- moves of the time alone, none past the end
 abbrev pub are_advances : ℕ → List Entry → Bool
 are_advances end [] = true

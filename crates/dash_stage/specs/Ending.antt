@@ -1,5 +1,5 @@
 -- How the kits give their posters and passes back, queue after queue and choreographer after choreographer.
-use Rattle.std.specs.Prelude.{◌≡◌, ◌<◌, ◌+◌, ℕ, List, ◌∷◌, map, length, slice_index_or, drop}
+use Rattle.std.specs.Prelude.{◌≡◌, ◌<◌, ◌+◌, ℕ, Bool, List, ◌∷◌, map, length, slice_index_or, drop}
 use Rattle.std.specs.Global.{Vec}
 use mathlib.Core.List.{IsPrefix}
 use Rattle.atomic_table.specs.Seated.{TableId}
@@ -18,7 +18,10 @@ use Rattle.looper_run.specs.Holding.{Sender}
 use Rattle.choreographer.specs.Known.{Shared as Frames, Known as Pass}
 use Rattle.choreographer.specs.Ends.{AreHeard, HasHandedOut, entries_in}
 use Rattle.run_model.specs.Run.{setting_of}
+use Rattle.message_pool.specs.Passes.{Tally}
+use Rattle.dash_hall.specs.declared.hall.Hall.{Hall}
 use Rattle.dash_hall.specs.declared.kit.Kit.{Kit}
+use Rattle.dash_hall.specs.Kits.{IsHall, AreKitsOf, AreQueuesOf, AreChoreographersOf, frame_constants, frames_for}
 use Rattle.dash_hall.specs.Kits.{ArePostersOf, badge_of, badge_for, FrameBadge, frame_badge_of}
 use Rattle.dash_hall.specs.Dealing.{given_of}
 use Rattle.dash_stage.specs.Controllers.{handed_out, parts_in, HaveHandedOut}
@@ -140,3 +143,43 @@ AreOfPool pool kits = (k : ℕ) (d : Kit) → k < length kits → (slice_index_o
 pub record AreOfNextPasses (s : Script) (looper : ℕ) (kits : List Kit) (entries : List FrameEntry) : Type 0 where
   pub parted : AreOfNext s looper kits entries
   pub own : BeginWithOwn (s.threads + looper) kits entries
+
+-- what the records of a run are made of
+pub record CanEnd (s : Script) (hall : Hall) (ks : List Kit) (pass : Tally) (lists : List (Vec Segment)) (frames : List (Vec (List FrameEntry))) : Type 0 where
+  pub fits : s.threads + s.loopers < 100
+  pub is_hall : IsHall s hall
+  pub kits : AreKitsOf s hall ks
+  pub sealed : AreSealed ks lists
+  pub sealed_frames : AreFramesSealed ks frames
+  pub home : pass.home ≡ hall.pool
+
+-- those of the queues
+pub record CanEndQueues (s : Script) (pool : TableId) (pass : Tally) (qs : List (Shared TableId)) (ks : List Kit) (lists : List (Vec Segment)) : Type 0 where
+  pub home : pass.home ≡ pool
+  pub queues : (lockstep : Bool) × AreQueuesOf lockstep s pool qs
+  pub count : length ks ≡ sender_count s
+  pub kits : HaveAllPosters qs ks
+  pub sealed : AreSealed ks lists
+
+-- that of one queue
+pub record CanEndQueue (pool : TableId) (pass : Tally) (q : Shared TableId) (ks : List Kit) (parts : List Segment) : Type 0 where
+  pub of_pool : pass.home ≡ pool
+  pub home : q.constants.home ≡ pool
+  pub next : AreNext q ks
+  pub sealed : HasSealedNext ks parts
+
+-- those of the choreographers
+pub record CanEndFrames (s : Script) (cs : List Frames) (ks : List Kit) (lists : List (Vec (List FrameEntry))) : Type 0 where
+  pub fits : s.threads + s.loopers < 100
+  pub choreographers : AreChoreographersOf s cs
+  pub count : length ks ≡ sender_count s
+  pub kits : HaveAllPasses (frames_for s cs) ks
+  pub sealed : AreFramesSealed ks lists
+
+-- that of one choreographer
+pub record CanEndChoreographer (s : Script) (looper : ℕ) (c : Frames) (ks : List Kit) (parts : List (List FrameEntry)) : Type 0 where
+  pub fits : s.threads + s.loopers < 100
+  pub one : looper < s.loopers
+  pub constants : c.constants ≡ frame_constants s looper
+  pub kits : HaveNextPasses s looper c ks
+  pub sealed : HasSealedNextFrames ks parts

@@ -1,11 +1,13 @@
 -- How the controller ends the queues of a run that is given up.
-use Rattle.std.specs.Prelude.{◌≡◌, ◌<◌, ◌≤◌, ◌+◌, ℕ, false, List, length, slice_index_or}
+use Rattle.std.specs.Prelude.{◌≡◌, ◌<◌, ◌≤◌, ◌+◌, ℕ, Bool, true, false, List, length, slice_index_or}
 use Rattle.dash_script.specs.declared.script.Script.{Script}
 use Rattle.looper_run.specs.Holding.{Sender}
+use Rattle.dash_hall.specs.declared.hall.Hall.{Hall}
 use Rattle.dash_hall.specs.Growth.{own, QuitsOf}
 use Rattle.dash_loopers.specs.declared.looper.StageLooper.{StageLooper}
 use Rattle.dash_loopers.specs.Loopers.{HasRun}
 use Rattle.dash_stage.specs.declared.control.Controller.{Controller}
+use Rattle.dash_stage.specs.Controllers.{IsControllerIn, TurnsAlone, AtPoster}
 
 -- each of the first n queues but main's was quit plainly at this time by one call, which may have been refused
 abbrev pub AreQuitBelow : ℕ → ℕ → Controller → Controller → Type 0
@@ -48,3 +50,23 @@ HaveBeenRung n before after = (q : ℕ) (d : Sender) → q < n → rings before 
 -- each looper but the main one has run a round at this moment
 abbrev pub OthersHaveRun : Script → ℕ → List StageLooper → List StageLooper → Type 0
 OthersHaveRun s now before after = (k : ℕ) (d : StageLooper) → 0 < k → k < length before → HasRun s now (slice_index_or before k d) (slice_index_or after k d)
+
+-- a queue was quit at this moment by one call, which may have been refused, unless memory was wanting; no bell was rung
+pub record QuitsNow (safe : Bool) (now : ℕ) (s : Script) (hall : Hall) (place : ℕ) (before after : Controller) (done : Bool) : Type 0 where
+  pub alone : TurnsAlone hall.lockstep s hall place before after
+  pub here : done ≡ true → AtPoster (λ p p'. QuitsOf p p' safe now) place before after
+  pub bells : RingsNone before after
+
+-- so it was, safely, unless its looper has ended
+pub record QuitsUnless (has_ended : Bool) (now : ℕ) (s : Script) (hall : Hall) (place : ℕ) (before after : Controller) (done : Bool) : Type 0 where
+  pub alone : TurnsAlone hall.lockstep s hall place before after
+  pub left : has_ended ≡ true → after ≡ before
+  pub made : done ≡ true → has_ended ≡ false → AtPoster (λ p p'. QuitsOf p p' true now) place before after
+  pub bells : RingsNone before after
+
+-- main was nudged, and each other queue quit plainly at this time, unless memory was wanting
+pub record GivesRunUp (now : ℕ) (s : Script) (hall : Hall) (before after : Controller) (done : Bool) : Type 0 where
+  pub controller : IsControllerIn hall.lockstep s hall after
+  pub nudged : IsNudged before after
+  pub bells : RingsNoLess before after
+  pub quit : done ≡ true → AreQuit now before after

@@ -19,3 +19,4 @@ pub mod Steps
 pub mod Opening
 pub mod Asking
 pub mod Keeping
+pub mod Outcomes

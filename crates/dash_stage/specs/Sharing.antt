@@ -1,9 +1,11 @@
 -- How senders come to have seen the same of each queue's history, and heard the same of each choreographer's.
-use Rattle.std.specs.Prelude.{◌≡◌, ◌≢◌, ◌<◌, ℕ, List, [], length, slice_index_or}
+use Rattle.std.specs.Prelude.{◌≡◌, ◌≢◌, ◌<◌, ℕ, List, [], length, slice_index_or, IsSome}
+use Rattle.atomic_table.specs.Seated.{TableId}
 use Rattle.frame_phases.specs.declared.entry.FrameEntry.{FrameEntry}
 use Rattle.loop_model.specs.declared.entry.Entry.{Entry}
 use Rattle.looper_run.specs.Holding.{Sender}
-use Rattle.choreographer.specs.Known.{Known as Pass}
+use Rattle.shared_queue.specs.Known.{Shared, IsOf}
+use Rattle.choreographer.specs.Known.{Shared as Frames, Known as Pass, IsOf as IsFrameOf, HasHeardWho}
 use Rattle.dash_script.specs.declared.script.Script.{Script}
 use Rattle.dash_hall.specs.declared.kit.Kit.{Kit}
 use Rattle.dash_threads.specs.declared.thread.PostingThread.{PostingThread}
@@ -11,9 +13,10 @@ use Rattle.dash_loopers.specs.declared.looper.StageLooper.{StageLooper}
 use Rattle.dash_stage.specs.declared.control.Controller.{Controller}
 use Rattle.dash_stage.specs.declared.stage.Stage.{Stage}
 use Rattle.dash_stage.specs.Stages.{IsStage}
-use Rattle.dash_hall.specs.Hearing.{seen_by, AtEach, HaveHeard, HaveHeardAt, HaveSeenAll, AreKept, PassesHaveHeard, HasHeardAll, HaveHeardAllAt}
-use Rattle.dash_threads.specs.Threads.{ThreadKeeps}
-use Rattle.dash_loopers.specs.Loopers.{posters_of, LooperKeeps, OfItsPasses, IsWithin}
+use Rattle.dash_hall.specs.Hearing.{seen_by, AtEach, HasHeard, HaveHeard, HaveHeardAt, HaveSeenAll, AreKept, AreReady, AreKnown}
+use Rattle.dash_hall.specs.Hearing.{PassHasHeard, PassesHaveHeard, HasHeardAll, HaveHeardAllAt, ArePassesReady, ArePassesKnown}
+use Rattle.dash_threads.specs.Threads.{ThreadKeeps, TellsPass, HearsPass}
+use Rattle.dash_loopers.specs.Loopers.{posters_of, LooperKeeps, OfItsPasses, HearsPasses, IsWithin}
 
 -- the controller's posters before and after are so, its passes are as before or heard others, and all else of it is as before
 pub record ControllerKeeps (R : List Sender → List Sender → Type 0) (before after : Controller) : Type 0 where
@@ -105,3 +108,69 @@ pub record HaveShared (s : Script) (before after : Stage) : Type 0 where
   pub kept : StageKeeps HaveHeard before after
   pub same : HaveSeenTheSame after
   pub heard : HaveHeardTheSame s after
+
+-- all senders have seen the same of each queue's history, and all else is as before
+pub record HaveSharedQueues (before after : Stage) : Type 0 where
+  pub kept : StageKeeps HaveHeard before after
+  pub shared : HaveSeenTheSame after
+
+-- a poster of this queue may hear those of the threads
+pub record CanHearFrom (place : ℕ) (queue : Shared TableId) (ts : List PostingThread) (other : Sender) : Type 0 where
+  pub ready : OfThreads (AreReady place queue) ts
+  pub poster : IsOf other queue
+
+-- or those of the loopers
+pub record CanHearLoopers (place : ℕ) (queue : Shared TableId) (ls : List StageLooper) (other : Sender) : Type 0 where
+  pub ready : OfLoopers (AreReady place queue) ls
+  pub within : AreWithin ls
+  pub poster : IsOf other queue
+
+-- it heard all that those of the threads have seen
+pub record ThreadsHaveTold (place : ℕ) (ts ts' : List PostingThread) (other other' : Sender) : Type 0 where
+  pub kept : AtEach (ThreadKeeps AreKept) ts ts'
+  pub heard : HasHeard other other'
+  pub told : OfThreads (AreKnown place other'.view.seen) ts
+
+-- or those of the loopers
+pub record LoopersHaveTold (place : ℕ) (ls ls' : List StageLooper) (other other' : Sender) : Type 0 where
+  pub kept : AtEach (LooperKeeps AreKept) ls ls'
+  pub heard : HasHeard other other'
+  pub told : OfLoopers (AreKnown place other'.view.seen) ls
+
+-- this poster and those of the threads and loopers may hear each other
+pub record CanShareBy (place : ℕ) (queue : Shared TableId) (ts : List PostingThread) (ls : List StageLooper) (p : Sender) : Type 0 where
+  pub threads : OfThreads (AreReady place queue) ts
+  pub loopers : OfLoopers (AreReady place queue) ls
+  pub within : AreWithin ls
+  pub poster : IsOf p queue
+
+-- they have seen the same
+pub record HaveSharedBy (place : ℕ) (ts ts' : List PostingThread) (ls ls' : List StageLooper) (p p' : Sender) : Type 0 where
+  pub threads : AtEach (ThreadKeeps (HaveHeardAt place p'.view.seen)) ts ts'
+  pub loopers : AtEach (LooperKeeps (HaveHeardAt place p'.view.seen)) ls ls'
+  pub poster : HasHeard p p'
+
+-- a pass of this choreographer may hear those of the threads
+pub record CanHearPasses (place : ℕ) (c : Frames) (ts : List PostingThread) (other : Pass) : Type 0 where
+  pub ready : OfPasses (ArePassesReady place c) ts
+  pub pass : IsFrameOf other c
+
+-- it heard all that they have
+pub record HaveToldPass (place : ℕ) (ts ts' : List PostingThread) (other other' : Pass) : Type 0 where
+  pub kept : AtEach TellsPass ts ts'
+  pub heard : PassHasHeard other other'
+  pub told : OfPasses (ArePassesKnown place other'.view.heard) ts
+
+-- this pass and those of the threads and of the looper may hear each other
+pub record CanSharePasses (place : ℕ) (c : Frames) (ts : List PostingThread) (l : StageLooper) (p : Pass) : Type 0 where
+  pub threads : OfPasses (ArePassesReady place c) ts
+  pub parts : IsSome l.parts
+  pub looper : OfItsPasses (λ q. IsFrameOf q c) l
+  pub pass : IsFrameOf p c
+
+-- they have heard the same: who recorded each entry that one of them has seen
+pub record HaveSharedPasses (place : ℕ) (ts ts' : List PostingThread) (l l' : StageLooper) (p p' : Pass) : Type 0 where
+  pub threads : AtEach (HearsPass place p'.view.heard) ts ts'
+  pub looper : HearsPasses p'.view.heard l l'
+  pub pass : PassHasHeard p p'
+  pub who : HasHeardWho p'

@@ -3,6 +3,7 @@ use Rattle.std.specs.Prelude.{◌≡◌, ◌<◌, ◌+◌, ℕ, Bool, true, fals
 use Rattle.dash_script.specs.declared.script.Block.{Block}
 use Rattle.dash_script.specs.declared.script.Script.{Script}
 use Rattle.run_model.specs.Planned.{lines_of, sender_count}
+use Rattle.dash_script.specs.Reading.{HasText}
 use Rattle.dash_hall.specs.declared.hall.Hall.{Hall}
 use Rattle.dash_threads.specs.declared.thread.PostingThread.{PostingThread}
 use Rattle.dash_loopers.specs.declared.looper.StageLooper.{StageLooper}
@@ -25,13 +26,26 @@ abbrev pub AreLoopers : Script → Hall → List StageLooper → Type 0
 AreLoopers s hall ls =
     (length ls ≡ s.loopers) × ((k : ℕ) (d : StageLooper) → k < length ls → IsLooper s hall (slice_index_or ls k d) × ((slice_index_or ls k d).number ≡ k))
 
--- all senders of the script, with what they need
+-- all senders of the script, which has a text, with what they need
 pub record IsStageIn (lockstep : Bool) (s : Script) (st : Stage) : Type 0 where
+  pub text : HasText s
   pub hall : IsHall s st.hall
   pub threads : AreThreads s st.hall st.threads.items
   pub loopers : AreLoopers s st.hall st.loopers.items
   pub controller : IsControllerIn lockstep s st.hall st.controller
   pub pass : st.pass.home ≡ st.hall.pool
+
+-- what threads need to run a block
+pub record CanRunBlock (s : Script) (hall : Hall) (ts : List PostingThread) : Type 0 where
+  pub text : HasText s
+  pub is_hall : IsHall s hall
+  pub threads : AreThreads s hall ts
+
+-- what loopers need to run a round in lockstep
+pub record CanRunRound (s : Script) (hall : Hall) (ls : List StageLooper) : Type 0 where
+  pub is_hall : IsHall s hall
+  pub mode : hall.lockstep ≡ true
+  pub loopers : AreLoopers s hall ls
 
 -- the same in lockstep
 abbrev pub IsStage : Script → Stage → Type 0
@@ -102,3 +116,9 @@ OthersHaveEnded ls = (k : ℕ) (d : StageLooper) → 0 < k → k < length ls →
 -- no looper has given up
 abbrev pub LoopersGoOn : List StageLooper → Type 0
 LoopersGoOn ls = (k : ℕ) (d : StageLooper) → k < length ls → is_given_up (slice_index_or ls k d).last ≡ false
+
+-- a stage of which records can be kept: each looper but the main one has ended, and none has given up
+pub record CanBeKept (s : Script) (st : Stage) : Type 0 where
+  pub stage : IsStageIn st.hall.lockstep s st
+  pub ended : OthersHaveEnded st.loopers.items
+  pub on : LoopersGoOn st.loopers.items

@@ -1,19 +1,14 @@
 //! The controller of a run.
-ghost use Rattle.std.specs.Prelude.{◌≡◌, ◌≤◌, ◌+◌, ℕ, true, false, length, sum_by, Some, IfOk, OnOk};
-ghost use Rattle.shared_queue.specs.Known.{IsOf};
-ghost use Rattle.choreographer.specs.Known.{IsOf as IsOfFrames};
+ghost use Rattle.std.specs.Prelude.{◌≡◌, ◌≤◌, true, false, length, sum_by, IfOk, OnOk};
 ghost use Rattle.dash_hall.specs.Growth.{GoesOn, QuitsOf};
 ghost use Rattle.dash_hall.specs.Hearing.{seen_by};
-ghost use Rattle.dash_hall.specs.Kits.{IsHall};
 ghost use Rattle.dash_threads.specs.Threads.{AreByClock};
 ghost use Rattle.looper_run.specs.Holding.{Sender};
 ghost use Rattle.run_model.specs.Moments.{Mode, IsMoment};
-ghost use Rattle.run_model.specs.Control.{IsPulseTime};
-ghost use Rattle.dash_stage.specs.Controllers.{IsController, IsControllerIn, CanTurn, TurnsAlone, IsMoving, IsQuitting, IsClosing, IsClosingBy};
-ghost use Rattle.dash_stage.specs.Controllers.{CallsNone, LooksFor, HandsOutFrames, AtPoster, OtherPassesStay, calls_on, time_in};
-ghost use Rattle.dash_stage.specs.ControlSteps.{KeepsPace, HasAdvanced, HaveAdvanced, QuitsAt, HasHaltedMain};
-ghost use Rattle.dash_stage.specs.GivingUp.{RingsNone};
-ghost use Rattle.dash_stage.specs.Timeliness.{TurnsOn, EachTurnsOn, Halts, IsNone, HandsOut};
+ghost use Rattle.dash_stage.specs.Controllers.{IsController, CanTurn, TurnsAlone, IsClosing, IsClosingBy, HandsOutFrames, calls_on, time_in, Controls};
+ghost use Rattle.dash_stage.specs.ControlSteps.{KeepsPace, HasAdvanced, HaveAdvanced, QuitsAt, CanMove, CanQuit, CanQuitAtEnd, CanQuitBy, CanHandOut, CanHandOutFrames, TriesToHalt, TurnsIdle, StaysIdle, KeepsPosters, HasLookedFor};
+ghost use Rattle.dash_stage.specs.GivingUp.{QuitsUnless};
+ghost use Rattle.dash_stage.specs.Timeliness.{EachTurnsOn, Halts, IsNone, HandsOut};
 
 use choreographer::{Choreographer, FramePass};
 use dash_hall::{Hall, Kit, quit};
@@ -48,9 +43,7 @@ impl Controller {
         script: &Script,
         now: u64,
     ) -> Result<bool, NoMemory>
-        requires at { CanTurn true script.now hall.now 0 self.old }
-        requires end { now ≤ script.now.end }
-        requires moving { IsMoving script.now self.old }
+        requires { CanMove script.now hall.now 0 now self.old }
         ensures controller { IsController script.now hall.now self.new }
         ensures pace { KeepsPace script.now now self.old self.new }
         ensures all { IfOk result (HaveAdvanced script.now now self.old self.new) }
@@ -71,9 +64,7 @@ impl Controller {
         place: usize,
         now: u64,
     ) -> Result<bool, NoMemory>
-        requires at { CanTurn true script.now hall.now place self.old }
-        requires end { now ≤ script.now.end }
-        requires moving { IsMoving script.now self.old }
+        requires { CanMove script.now hall.now place now self.old }
         ensures alone { TurnsAlone true script.now hall.now place self.old self.new }
         ensures pace { KeepsPace script.now now self.old self.new }
         ensures one { IfOk result (HasAdvanced script.now now place self.old self.new) }
@@ -105,10 +96,8 @@ impl Controller {
         hall: &Hall,
         script: &Script,
     ) -> Result<(), NoMemory>
-        requires hall { IsHall script.now hall.now }
-        requires controller { IsController script.now hall.now self.old }
-        ensures controller { IsController script.now hall.now self.new }
-        ensures none { CallsNone self.old self.new }
+        requires { Controls true script.now hall.now self.old }
+        ensures idle { StaysIdle true script.now hall.now self.old self.new }
         ensures turns { OnOk result (EachTurnsOn IsNone self.old self.new) }
     {
         for place in 0..script.loopers {
@@ -127,9 +116,7 @@ impl Controller {
         place: usize,
     ) -> Result<(), NoMemory>
         requires at { CanTurn true script.now hall.now place self.old }
-        ensures alone { TurnsAlone true script.now hall.now place self.old self.new }
-        ensures none { CallsNone self.old self.new }
-        ensures here { AtPoster (TurnsOn IsNone) place self.old self.new }
+        ensures { TurnsIdle true script.now hall.now place self.old self.new }
     {
         hand_out(
             rt,
@@ -148,8 +135,7 @@ impl Controller {
         place: usize,
     ) -> Result<(), NoMemory>
         requires at { CanTurn true script.now hall.now place self.old }
-        ensures controller { IsController script.now hall.now self.new }
-        ensures posters { self.new.kit.posters ≡ self.old.kit.posters }
+        ensures { KeepsPosters script.now hall.now self.old self.new }
     {
         hand_out_frames(
             rt,
@@ -179,11 +165,7 @@ impl Controller {
         looper: u32,
     ) -> Option<u64>
         requires at { CanTurn true script.now hall.now looper self.old }
-        ensures controller { IsController script.now hall.now self.new }
-        ensures posters { self.new.kit.posters ≡ self.old.kit.posters }
-        ensures pulse { (time : ℕ) → result ≡ Some time → IsPulseTime script.now.period time }
-        ensures look { LooksFor looper self.old self.new result }
-        ensures elsewhere { OtherPassesStay looper self.old self.new }
+        ensures { HasLookedFor script.now hall.now looper self.old self.new result }
     {
         let place = looper as usize;
         let stamp = hall.choreographers[place].asked(rt, &mut self.kit.frames[place])?;
@@ -198,8 +180,7 @@ impl Controller {
         script: &Script,
         looper: u32,
     ) -> Result<(), NoMemory>
-        requires at { CanTurn true script.now hall.now looper self.old }
-        requires quitting { IsQuitting script.now looper self.old }
+        requires { CanQuit script.now hall.now looper self.old }
         ensures alone { TurnsAlone true script.now hall.now looper self.old self.new }
         ensures quits { OnOk result (QuitsAt script.now looper self.old self.new) }
     {
@@ -212,10 +193,8 @@ impl Controller {
     /// The time of a queue, in milliseconds.
     fn time_on<R: Wait>(&mut self, rt: &R, hall: &Hall, script: &Script, place: usize) -> u64
         requires at { CanTurn true script.now hall.now place self.old }
-        ensures alone { TurnsAlone true script.now hall.now place self.old self.new }
-        ensures none { CallsNone self.old self.new }
+        ensures idle { TurnsIdle true script.now hall.now place self.old self.new }
         ensures time { (d : Sender) → result ≡ time_in (calls_on self.new place d) }
-        ensures here { AtPoster (TurnsOn IsNone) place self.old self.new }
     {
         self.kit.posters[place].time(rt, &hall.queues[place])
     }
@@ -228,9 +207,7 @@ impl Controller {
         script: &Script,
         place: usize,
     ) -> Result<(), NoMemory>
-        requires at { CanTurn true script.now hall.now place self.old }
-        requires quitting { IsQuitting script.now place self.old }
-        requires time { (d : Sender) → script.now.end ≤ time_in (calls_on self.old place d) }
+        requires { CanQuitAtEnd script.now hall.now place self.old }
         ensures alone { TurnsAlone true script.now hall.now place self.old self.new }
         ensures quits { OnOk result (QuitsAt script.now place self.old self.new) }
     {
@@ -249,10 +226,7 @@ impl Controller {
     pub(crate) fn halt<R: Wait>(&mut self, rt: &R, hall: &Hall, script: &Script) -> bool
         requires at { CanTurn true script.now hall.now 0 self.old }
         requires closing { IsClosing script.now self.old }
-        ensures controller { IsController script.now hall.now self.new }
-        ensures turns { EachTurnsOn Halts self.old self.new }
-        ensures going { result ≡ false → IsClosing script.now self.new }
-        ensures closed { result ≡ true → HasHaltedMain true script.now self.new }
+        ensures { TriesToHalt true (IsClosing script.now) script.now hall.now self.old self.new result }
     {
         match self.kit.posters[0].halt(rt, &hall.queues[0], script.end) {
             Halting::Halted => true,
@@ -272,10 +246,7 @@ impl Controller {
         now: u64,
     ) -> bool
         requires at { CanTurn hall.now.lockstep script.now hall.now place self.old }
-        ensures alone { TurnsAlone hall.now.lockstep script.now hall.now place self.old self.new }
-        ensures left { has_ended ≡ true → self.new ≡ self.old }
-        ensures made { result ≡ true → has_ended ≡ false → AtPoster (λ before after. QuitsOf before after true now) place self.old self.new }
-        ensures bells { RingsNone self.old self.new }
+        ensures { QuitsUnless has_ended now script.now hall.now place self.old self.new result }
     {
         if has_ended {
             return true;
@@ -294,10 +265,7 @@ impl Controller {
         requires at { CanTurn false script.now hall.now 0 self.old }
         requires closing { IsClosingBy script.now self.old }
         requires late { script.now.end ≤ now }
-        ensures controller { IsControllerIn false script.now hall.now self.new }
-        ensures turns { EachTurnsOn Halts self.old self.new }
-        ensures going { result ≡ false → IsClosingBy script.now self.new }
-        ensures closed { result ≡ true → HasHaltedMain false script.now self.new }
+        ensures tries { TriesToHalt false (IsClosingBy script.now) script.now hall.now self.old self.new result }
         ensures clocked { (m : Mode) → IsMoment m now → AreByClock m self.old.kit.posters.items → AreByClock m self.new.kit.posters.items }
     {
         match self.kit.posters[0].halt(rt, &hall.queues[0], now) {
@@ -324,8 +292,7 @@ fn hand_out<R: Wait>(
     poster: &mut Poster<PoolClaim>,
     parts: &mut Vec<Segment>,
 ) -> Result<(), NoMemory>
-    requires poster { IsOf poster.old queue.now }
-    requires last { poster.old.sender + 1 ≡ queue.now.constants.setting.senders }
+    requires { CanHandOut poster.old queue.now }
     ensures { HandsOut poster.old poster.new parts.old.items parts.new.items }
 {
     if poster.since(rt, queue) < MANY {
@@ -344,9 +311,7 @@ fn hand_out_frames<R: Wait>(
     pass: &mut FramePass,
     parts: &mut Vec<Sequence<FrameEntry>>,
 ) -> Result<(), NoMemory>
-    requires pass { IsOfFrames pass.old choreographer.now }
-    requires last { pass.old.number + 1 ≡ choreographer.now.constants.passes }
-    requires seals { choreographer.now.constants.seals ≡ true }
+    requires { CanHandOutFrames pass.old choreographer.now }
     ensures { HandsOutFrames pass.old pass.new parts.old.items parts.new.items }
 {
     parts.reserve(1)?;
@@ -365,9 +330,7 @@ pub(crate) fn quit_by<R: Wait>(
     safe: bool,
     now: u64,
 ) -> Result<(), NoMemory>
-    requires poster { IsOf poster.old queue.now }
-    requires pass { pass.old.home ≡ pool.now }
-    requires home { queue.now.constants.home ≡ pool.now }
+    requires { CanQuitBy queue.now poster.old pool.now pass.old }
     ensures on { GoesOn poster.old poster.new pass.old pass.new }
     ensures quit { OnOk result (QuitsOf poster.old poster.new safe now) }
 {

@@ -1,25 +1,24 @@
 //! A run by a clock.
-ghost use Rattle.std.specs.Prelude.{◌≡◌, ◌<◌, ◌≤◌, false, true, length, slice_index_or, None, IfOk, OnOk};
+ghost use Rattle.std.specs.Prelude.{◌≡◌, ◌<◌, false, true, length, slice_index_or, None, IfOk, OnOk};
 ghost use Rattle.std.specs.Thread.{IsSync};
-ghost use Rattle.loop_io.specs.Moments.{IsMoment};
 ghost use Rattle.dash_script.specs.Reading.{HasText};
-ghost use Rattle.dash_hall.specs.Hearing.{HaveHeard};
 ghost use Rattle.dash_threads.specs.Threads.{IsThread};
 ghost use Rattle.looper_run.specs.Round.{is_ended};
 ghost use Rattle.dash_loopers.specs.declared.looper.StageLooper.{StageLooper as LooperData};
 ghost use Rattle.dash_loopers.specs.Loopers.{IsLooper};
-ghost use Rattle.dash_stage.specs.ByClock.{IsFreeHall, by_timer, RunsByClock, LoopsAlone, EachRuns, EachLoops, EachLoopsAlone, MainLoops, LoopSideBySide, QuitsOthers};
-ghost use Rattle.dash_stage.specs.ByClock.{EachIsThread, EachIsLooper, CanRunBeside, CanRunMain, CanQuitOthers, RunBeside, RanMain, HearsThreads, EndsOthers};
-ghost use Rattle.dash_stage.specs.GivingUp.{HaveBeenRung};
+ghost use Rattle.dash_stage.specs.ByClock.{IsFreeHall, by_timer, RunsByClock, LoopsAlone, EachRuns, EachLoops, EachLoopsAlone, MainLoops};
+ghost use Rattle.dash_stage.specs.ByClock.{EachIsThread, EachIsLooper, CanRunBeside, CanRunMain, CanRunThreads, CanRunFirst, CanQuitOthers, CanDrain};
+ghost use Rattle.dash_stage.specs.ByClock.{IsLateMoment, RanBeside, RanMain, HearsThreads, EndsOthers, HasQuitOthers};
 ghost use Rattle.dash_stage.specs.RunEnds.{HasBegunByClock, IsClosingByClock, HasEndedByClock};
-ghost use Rattle.dash_stage.specs.Sharing.{StageKeeps, HaveSeenTheSame};
-ghost use Rattle.run_model.specs.ByClock.{IsStagedByClock};
-ghost use Rattle.dash_stage.specs.Stages.{IsStageIn, AreLoopers, OthersHaveEnded};
+ghost use Rattle.dash_stage.specs.Sharing.{HaveSharedQueues};
+ghost use Rattle.dash_stage.specs.Outcomes.{StagesByClock};
+ghost use Rattle.dash_stage.specs.Stages.{IsStageIn, OthersHaveEnded};
 
 use crate::control::Controller;
 use crate::kept::report_by_clock;
 use crate::means::Means;
 use crate::opening::set_up;
+use crate::run::Ran;
 use crate::share::hear_threads;
 use crate::side::{has_given_up, some_gave_up};
 use crate::stage::Stage;
@@ -29,7 +28,6 @@ use dash_script::Script;
 use dash_threads::PostingThread;
 use loop_io::{Clock, Gate};
 use loop_model::NoMemory;
-use run_model::Report;
 use std::alloc::Global;
 use std::sync::{Mutex, Wait};
 use std::thread::{Threads, for_each_mut, join_mut};
@@ -38,22 +36,37 @@ use std::time;
 /// Runs the script by a clock and keeps its records. Each thread runs its blocks at their times, each looper waits for its messages on a
 /// thread of its own, the main one until the script's end. Then the controller quits the others safely, these run until their queues
 /// are disposed of, and the main one drains and is halted. The script has a text. It is refused only for want of memory.
-#[tactic(auto, using(crate::proofs::BlockTimes::Limits::playable))]
 pub fn run_free<R: Threads + Wait + time::Clock + Sync, C: Clock + Sync, G: Gate + Sync>(
     rt: &R,
     alloc: Global,
     script: Script,
     clock: &C,
     gate: &G,
-) -> Result<Report, NoMemory>
+) -> Ran
     requires { HasText script }
-    ensures { IfOk result (IsStagedByClock (C.shows clock.now) script) }
+    ensures { StagesByClock (C.shows clock.now) script result }
 {
     let timer = Timer::new(clock);
     let means = Means { rt, alloc, gate };
-    let mut stage = set_up(alloc, &script, false)?;
-    stage.play_by_clock(&means, &script, &timer)?;
+    let stage = match played(&means, &script, &timer) {
+        Ok(stage) => stage,
+        Err(NoMemory) => return Ran::NoMemory,
+    };
     report_by_clock(alloc, script, stage, timer.start)
+}
+
+/// The stage after the run.
+fn played<R: Threads + Wait + time::Clock + Sync, C: Clock + Sync, G: Gate + Sync>(
+    means: &Means<R, G>,
+    script: &Script,
+    timer: &Timer<C>,
+) -> Result<Stage, NoMemory>
+    requires { HasText script.now }
+    ensures out { IfOk result (HasEndedByClock (by_timer C.shows timer.now) script.now) }
+{
+    let mut stage = set_up(means.alloc, script, false)?;
+    stage.play_by_clock(means, script, timer)?;
+    Ok(stage)
 }
 
 impl Stage {
@@ -64,7 +77,6 @@ impl Stage {
         script: &Script,
         timer: &Timer<C>,
     ) -> Result<(), NoMemory>
-        requires text { HasText script.now }
         requires begun { HasBegunByClock (by_timer C.shows timer.now) script.now self.old }
         ensures out { OnOk result (HasEndedByClock (by_timer C.shows timer.now) script.now self.new) }
     {
@@ -86,7 +98,6 @@ impl Stage {
         script: &Script,
         timer: &Timer<C>,
     ) -> Result<(), NoMemory>
-        requires text { HasText script.now }
         requires begun { HasBegunByClock (by_timer C.shows timer.now) script.now self.old }
         ensures closing { OnOk result (IsClosingByClock (by_timer C.shows timer.now) script.now self.new) }
     {
@@ -125,7 +136,6 @@ impl Stage {
         script: &Script,
         timer: &Timer<C>,
     ) -> Result<(), NoMemory>
-        requires text { HasText script.now }
         requires closing { IsClosingByClock (by_timer C.shows timer.now) script.now self.old }
         ensures closing { OnOk result (IsClosingByClock (by_timer C.shows timer.now) script.now self.new) }
     {
@@ -170,8 +180,7 @@ impl Stage {
     fn share_by_clock(&mut self, script: &Script)
         requires stage { IsStageIn false script.now self.old }
         ensures stage { IsStageIn false script.now self.new }
-        ensures kept { StageKeeps HaveHeard self.old self.new }
-        ensures shared { HaveSeenTheSame self.new }
+        ensures shares { HaveSharedQueues self.old self.new }
     {
         self.share_each(script);
     }
@@ -189,8 +198,7 @@ fn run_side_by_side<R: Threads + Wait + time::Clock + Sync, C: Clock + Sync, G: 
     controller: &mut Controller,
 ) -> bool
     requires can { CanRunBeside script.now hall.now threads.old loopers.old controller.old }
-    ensures beside { RunBeside (by_timer C.shows timer.now) script.now hall.now threads.old threads.new loopers.old loopers.new }
-    ensures looped { result ≡ true → LoopSideBySide (by_timer C.shows timer.now) script.now loopers.old loopers.new }
+    ensures ran { RanBeside (by_timer C.shows timer.now) script.now hall.now threads.old threads.new loopers.old loopers.new result }
     ensures ends { EndsOthers (by_timer C.shows timer.now) script.now hall.now threads.new controller.old controller.new result }
 {
     let ended = Mutex::new(0);
@@ -203,8 +211,7 @@ fn run_side_by_side<R: Threads + Wait + time::Clock + Sync, C: Clock + Sync, G: 
         { run_others(means, hall, script, timer, &ended, others) },
         &mut ||
             requires { CanRunMain script.now hall.now main.now threads.now controller.now × IsSync R.row × IsSync C.row × IsSync G.row }
-            ensures beside { RunBeside (by_timer C.shows timer.entry.now) script.entry.now hall.entry.now threads.entry.now threads.exit.now main.entry.now main.exit.now }
-            ensures looped { result ≡ true → MainLoops (by_timer C.shows timer.entry.now) script.entry.now hall.entry.now main.entry.now main.exit.now }
+            ensures ran { RanMain (by_timer C.shows timer.entry.now) script.entry.now hall.entry.now threads.entry.now threads.exit.now main.entry.now main.exit.now (result ≡ true) }
             ensures ends { EndsOthers (by_timer C.shows timer.entry.now) script.entry.now hall.entry.now threads.exit.now controller.entry.now controller.exit.now result }
         {
             let early = run_main(means, hall, script, timer, main, threads, controller);
@@ -285,7 +292,7 @@ fn run_main<R: Threads + Wait + time::Clock + Sync, C: Clock + Sync, G: Gate + S
     controller: &mut Controller,
 ) -> Option<Look>
     requires can { CanRunMain script.now hall.now main.old threads.old controller.old }
-    ensures ran { RanMain (by_timer C.shows timer.now) script.now hall.now threads.old threads.new main.old main.new result }
+    ensures ran { RanMain (by_timer C.shows timer.now) script.now hall.now threads.old threads.new main.old main.new (result ≡ None) }
     ensures hears { HearsThreads script.now threads.new controller.old controller.new }
 {
     let ((), early) = join_mut(
@@ -312,9 +319,7 @@ fn run_first<R: Wait + time::Clock, C: Clock, G: Gate>(
     timer: &Timer<C>,
     loopers: &mut [StageLooper],
 ) -> Option<Look>
-    requires hall { IsFreeHall script.now hall.now }
-    requires one { length loopers.old ≡ 1 }
-    requires loopers { EachIsLooper script.now hall.now loopers.old }
+    requires { CanRunFirst script.now hall.now loopers.old }
     ensures loopers { EachLoops (by_timer C.shows timer.now) script.now hall.now loopers.old loopers.new }
     ensures looped { result ≡ None → MainLoops (by_timer C.shows timer.now) script.now hall.now loopers.old loopers.new }
 {
@@ -337,9 +342,7 @@ fn run_threads<R: Threads + Wait + time::Clock + Sync, C: Clock + Sync, G: Gate 
     timer: &Timer<C>,
     threads: &mut [PostingThread],
 )
-    requires text { HasText script.now }
-    requires hall { IsFreeHall script.now hall.now }
-    requires threads { EachIsThread script.now hall.now threads.old }
+    requires { CanRunThreads script.now hall.now threads.old }
     ensures threads { EachRuns (by_timer C.shows timer.now) script.now hall.now threads.old threads.new }
 {
     let count = threads.len().max(1);
@@ -367,9 +370,7 @@ fn quit_others<R: Wait + time::Clock, C: Clock>(
     early: Option<Look>,
 ) -> bool
     requires can { CanQuitOthers script.now hall.now controller.old }
-    ensures heeds { result ≡ true → early ≡ None }
-    ensures quit { result ≡ true → QuitsOthers (by_timer C.shows timer.now) script.now hall.now controller.old controller.new }
-    ensures rung { result ≡ false → HaveBeenRung script.now.loopers controller.old controller.new }
+    ensures { HasQuitOthers early (by_timer C.shows timer.now) script.now hall.now controller.old controller.new result }
 {
     let Ok(now) = moment_to_quit(rt, hall, script, timer, early) else {
         controller.give_up(rt, hall, script, timer.now());
@@ -396,8 +397,7 @@ fn moment_to_quit<R: Wait + time::Clock, C: Clock>(
     timer: &Timer<C>,
     early: Option<Look>,
 ) -> Result<u64, Look>
-    ensures moment { IfOk result (IsMoment (C.shows timer.now.clock.now) timer.now.start) }
-    ensures late { IfOk result (λ now. script.now.end ≤ now) }
+    ensures late { IfOk result (IsLateMoment (C.shows timer.now.clock.now) timer.now.start script.now) }
     ensures heeds { IfOk result (λ now. early ≡ None) }
 {
     match early {
@@ -415,11 +415,8 @@ fn drain_first<R: Wait + time::Clock, C: Clock, G: Gate>(
     now: u64,
     loopers: &mut [StageLooper],
 )
-    requires some { 0 < script.now.loopers }
-    requires hall { IsFreeHall script.now hall.now }
-    requires loopers { AreLoopers script.now hall.now loopers.old }
-    requires moment { IsMoment (C.shows timer.now.clock.now) timer.now.start now }
-    requires late { script.now.end ≤ now }
+    requires can { CanDrain script.now hall.now loopers.old }
+    requires late { IsLateMoment (C.shows timer.now.clock.now) timer.now.start script.now now }
     ensures loopers { EachLoops (by_timer C.shows timer.now) script.now hall.now loopers.old loopers.new }
     ensures others { OthersHaveEnded loopers.old → OthersHaveEnded loopers.new }
 {

@@ -1,12 +1,8 @@
 //! How a run is given up.
-ghost use Rattle.std.specs.Prelude.{◌≡◌, ◌<◌, true, false};
-ghost use Rattle.dash_hall.specs.Growth.{QuitsOf};
-ghost use Rattle.dash_hall.specs.Kits.{IsHall};
-ghost use Rattle.dash_stage.specs.Controllers.{IsControllerIn, CanTurn, TurnsAlone, AtPoster};
-ghost use Rattle.dash_stage.specs.GivingUp.{AreQuit, AreRung, IsNudged, IsRung, OthersHaveRun, RingsNone, RingsNoLess};
-ghost use Rattle.dash_stage.specs.declared.side.Turn.TheVariants.{Others};
+ghost use Rattle.dash_stage.specs.Controllers.{IsControllerIn, CanTurn, Controls, TurnsAlone};
+ghost use Rattle.dash_stage.specs.GivingUp.{AreRung, IsRung, GivesRunUp, QuitsNow};
 ghost use Rattle.dash_stage.specs.Stages.{IsStage};
-ghost use Rattle.dash_stage.specs.Turns.{AtTurn, IsTheSame};
+ghost use Rattle.dash_stage.specs.Steps.{HasGivenUp};
 
 use crate::control::{Controller, quit_by};
 use crate::means::Means;
@@ -28,13 +24,8 @@ impl Stage {
         means: &Means<R, G>,
         script: &Script,
     ) -> bool
-        requires some { 0 < script.now.loopers }
         requires stage { IsStage script.now self.old }
-        ensures stage { IsStage script.now self.new }
-        ensures nudged { IsNudged self.old.controller self.new.controller }
-        ensures quit { result ≡ true → AreQuit self.old.time self.old.controller self.new.controller }
-        ensures run { OthersHaveRun script.now self.old.time self.old.loopers.items self.new.loopers.items }
-        ensures main { AtTurn Others false IsTheSame self.old.loopers.items self.new.loopers.items }
+        ensures { HasGivenUp script.now self.old self.new result }
     {
         let quit = self
             .controller
@@ -63,10 +54,7 @@ impl Controller {
         now: u64,
     ) -> bool
         requires at { CanTurn hall.now.lockstep script.now hall.now 0 self.old }
-        ensures controller { IsControllerIn hall.now.lockstep script.now hall.now self.new }
-        ensures nudged { IsNudged self.old self.new }
-        ensures bells { RingsNoLess self.old self.new }
-        ensures quit { result ≡ true → AreQuit now self.old self.new }
+        ensures { GivesRunUp now script.now hall.now self.old self.new result }
     {
         hall.stop.stop(rt);
         self.ring(rt, hall, script, 0);
@@ -79,8 +67,7 @@ impl Controller {
 
     /// Rings the bell of each looper, which looks at the flag then.
     pub(crate) fn ring_all<R: Wait>(&mut self, rt: &R, hall: &Hall, script: &Script)
-        requires hall { IsHall script.now hall.now }
-        requires controller { IsControllerIn hall.now.lockstep script.now hall.now self.old }
+        requires { Controls hall.now.lockstep script.now hall.now self.old }
         ensures controller { IsControllerIn hall.now.lockstep script.now hall.now self.new }
         ensures rung { AreRung script.now.loopers self.old self.new }
     {
@@ -109,9 +96,7 @@ impl Controller {
         now: u64,
     ) -> bool
         requires at { CanTurn hall.now.lockstep script.now hall.now place self.old }
-        ensures alone { TurnsAlone hall.now.lockstep script.now hall.now place self.old self.new }
-        ensures here { result ≡ true → AtPoster (λ before after. QuitsOf before after safe now) place self.old self.new }
-        ensures bells { RingsNone self.old self.new }
+        ensures { QuitsNow safe now script.now hall.now place self.old self.new result }
     {
         let Ok(()) = quit_by(
             rt,

@@ -1,16 +1,15 @@
 //! The report of a run.
 ghost use Rattle.std.specs.Prelude.{◌≡◌, ℕ, Bool, true, IfOk};
-ghost use Rattle.dash_script.specs.Reading.{HasText};
 ghost use Rattle.run_model.specs.ByClock.{in_free_mode};
 ghost use Rattle.dash_hall.specs.Kits.{IsHall};
 ghost use Rattle.dash_stage.specs.Keeping.{AreKeptOf, GiveKits, GiveBack};
+ghost use Rattle.dash_stage.specs.Outcomes.{Stages, StagesByClock};
 ghost use Rattle.dash_stage.specs.RunEnds.{HasEndedByClock, HasEndedInLockstep};
-ghost use Rattle.run_model.specs.Run.{IsStaged};
-ghost use Rattle.run_model.specs.ByClock.{IsStagedByClock};
-ghost use Rattle.dash_stage.specs.Stages.{IsPlayable, AreThreads, AreLoopers, AreThreadKits, OthersHaveEnded, LoopersGoOn, IsStageIn};
+ghost use Rattle.dash_stage.specs.Stages.{CanBeKept, AreThreads, AreLoopers, AreThreadKits};
 
 use crate::control::Controller;
 use crate::records::records;
+use crate::run::Ran;
 use crate::stage::Stage;
 use dash_hall::{Hall, Kit};
 use dash_loopers::StageLooper;
@@ -22,39 +21,37 @@ use run_model::Report;
 use std::alloc::Global;
 
 /// The report of a run that left this.
-pub(crate) fn report(alloc: Global, script: Script, stage: Stage) -> Result<Report, NoMemory>
-    requires playable { IsPlayable script }
-    requires text { HasText script }
-    requires out { HasEndedInLockstep script stage }
-    ensures { IfOk result (IsStaged script) }
+pub(crate) fn report(alloc: Global, script: Script, stage: Stage) -> Ran
+    requires { HasEndedInLockstep script stage }
+    ensures { Stages script result }
 {
-    let (queues, journals, frames) = kept(alloc, &script, stage)?;
-    Ok(Report {
-        script,
-        queues: Sequence::from_vec(queues),
-        journals: Sequence::from_vec(journals),
-        frames: Sequence::from_vec(frames),
-        start: 0,
-    })
+    match kept(alloc, &script, stage) {
+        Ok((queues, journals, frames)) => Ran::Ok(Report {
+            script,
+            queues: Sequence::from_vec(queues),
+            journals: Sequence::from_vec(journals),
+            frames: Sequence::from_vec(frames),
+            start: 0,
+        }),
+        Err(NoMemory) => Ran::NoMemory,
+    }
 }
 
 /// The report of a run by a clock that left this; the clock was read so at its start.
-pub(crate) fn report_by_clock(alloc: Global, script: Script, stage: Stage, start: u64) -> Result<Report, NoMemory>
-    requires playable { IsPlayable script }
-    requires text { HasText script }
-    requires stage { IsStageIn stage.hall.lockstep script stage }
-    requires ended { OthersHaveEnded stage.loopers.items }
-    requires on { LoopersGoOn stage.loopers.items }
-    ensures { (shows : ℕ → Bool) → shows start ≡ true → HasEndedByClock (in_free_mode shows start) script stage → IfOk result (IsStagedByClock shows script) }
+pub(crate) fn report_by_clock(alloc: Global, script: Script, stage: Stage, start: u64) -> Ran
+    requires { CanBeKept script stage }
+    ensures { (shows : ℕ → Bool) → shows start ≡ true → HasEndedByClock (in_free_mode shows start) script stage → StagesByClock shows script result }
 {
-    let (queues, journals, frames) = kept(alloc, &script, stage)?;
-    Ok(Report {
-        script,
-        queues: Sequence::from_vec(queues),
-        journals: Sequence::from_vec(journals),
-        frames: Sequence::from_vec(frames),
-        start,
-    })
+    match kept(alloc, &script, stage) {
+        Ok((queues, journals, frames)) => Ran::Ok(Report {
+            script,
+            queues: Sequence::from_vec(queues),
+            journals: Sequence::from_vec(journals),
+            frames: Sequence::from_vec(frames),
+            start,
+        }),
+        Err(NoMemory) => Ran::NoMemory,
+    }
 }
 
 /// The records of the queues, of the loopers and of the choreographers.
@@ -63,11 +60,7 @@ fn kept(
     script: &Script,
     stage: Stage,
 ) -> Result<(Vec<QueueRecord>, Vec<Journal>, Vec<FrameRecord>), NoMemory>
-    requires playable { IsPlayable script.now }
-    requires stage { IsStageIn stage.hall.lockstep script.now stage }
-    requires text { HasText script.now }
-    requires ended { OthersHaveEnded stage.loopers.items }
-    requires on { LoopersGoOn stage.loopers.items }
+    requires { CanBeKept script.now stage }
     ensures { IfOk result (λ r. AreKeptOf script.now stage r.0.items r.1.items r.2.items) }
 {
     let Stage {

@@ -1,9 +1,9 @@
 //! A stage before the first event.
 ghost use Rattle.std.specs.Prelude.{◌≡◌, ◌<◌, ◌+◌, [], IfOk, OnOk, replicate};
+ghost use Rattle.dash_script.specs.Reading.{HasText};
 ghost use Rattle.dash_hall.specs.Kits.{IsHall};
 ghost use Rattle.dash_stage.specs.Controllers.{parts_in};
 ghost use Rattle.dash_stage.specs.Opening.{AreUnusedFrom, AreOpenedThreads, AreOpenedLoopers, HasOpened};
-ghost use Rattle.dash_stage.specs.Stages.{IsPlayable};
 
 use crate::control::Controller;
 use crate::stage::Stage;
@@ -15,8 +15,9 @@ use loop_model::NoMemory;
 use std::alloc::Global;
 
 /// The senders of a script, which have done nothing, in lockstep or by a clock.
+#[tactic(auto, using(crate::proofs::BlockTimes::Limits::playable))]
 pub(crate) fn set_up(alloc: Global, script: &Script, lockstep: bool) -> Result<Stage, NoMemory>
-    requires { IsPlayable script.now }
+    requires { HasText script.now }
     ensures opened { IfOk result (HasOpened lockstep script.now) }
 {
     let (hall, mut kits, pass) = open(alloc, script, lockstep)?;

@@ -1,11 +1,11 @@
 //! The records of a run's queues and choreographers.
 ghost use Rattle.std.specs.Prelude.{◌≡◌, ◌<◌, ◌+◌, length, IfOk, OnOk, Bool};
 ghost use Rattle.atomic_table.specs.Seated.{TableId};
-ghost use Rattle.run_model.specs.Planned.{history_of, sender_count};
-ghost use Rattle.dash_hall.specs.Kits.{IsHall, AreKitsOf, AreQueuesOf, AreChoreographersOf, frame_constants, frames_for};
+ghost use Rattle.run_model.specs.Planned.{history_of};
+ghost use Rattle.dash_hall.specs.Kits.{AreQueuesOf};
 ghost use Rattle.dash_hall.specs.Dealing.{EachGivesPoster, given_of};
-ghost use Rattle.dash_stage.specs.Ending.{HavePosters, AreNext, AreSealed, HasSealedNext, HaveAllPosters, IsKeptOf, EachEndsPoster};
-ghost use Rattle.dash_stage.specs.Ending.{AreFramesSealed, HasSealedNextFrames, KeepFrames, HaveNextPasses, HaveAllPasses, HaveFramesLeft, AreOfNextPasses, AreOfPool};
+ghost use Rattle.dash_stage.specs.Ending.{CanEnd, CanEndQueues, CanEndQueue, CanEndFrames, CanEndChoreographer};
+ghost use Rattle.dash_stage.specs.Ending.{HavePosters, IsKeptOf, EachEndsPoster, KeepFrames, HaveFramesLeft, AreOfNextPasses, AreOfPool};
 ghost use Rattle.dash_stage.specs.Records.{AreRecordsIn, AreFramesIn};
 ghost use Rattle.run_model.specs.Run.{IsFrameRun};
 
@@ -29,12 +29,7 @@ pub(crate) fn records(
     sealed: Vec<Vec<Segment>>,
     sealed_frames: Vec<Vec<Sequence<FrameEntry>>>,
 ) -> Result<(Vec<QueueRecord>, Vec<FrameRecord>), NoMemory>
-    requires fits { script.now.threads + script.now.loopers < 100 }
-    requires hall { IsHall script.now hall }
-    requires kits { AreKitsOf script.now hall kits.items }
-    requires sealed { AreSealed kits.items sealed.items }
-    requires sealed_frames { AreFramesSealed kits.items sealed_frames.items }
-    requires pass { pass.home ≡ hall.pool }
+    requires { CanEnd script.now hall kits.items pass sealed.items sealed_frames.items }
     ensures queues { IfOk result (λ r. AreRecordsIn hall.lockstep script.now kits.items r.0.items) }
     ensures frames { IfOk result (λ r. AreFramesIn script.now kits.items r.1.items) }
 {
@@ -62,11 +57,7 @@ fn queue_records(
     kits: &mut Vec<Kit>,
     mut sealed: Vec<Vec<Segment>>,
 ) -> Result<Vec<QueueRecord>, NoMemory>
-    requires pass { pass.old.home ≡ pool.now }
-    requires queues { (lockstep : Bool) × AreQueuesOf lockstep script.now pool.now queues.items }
-    requires count { length kits.old.items ≡ sender_count script.now }
-    requires kits { HaveAllPosters queues.items kits.old.items }
-    requires sealed { AreSealed kits.old.items sealed.items }
+    requires { CanEndQueues script.now pool.now pass.old queues.items kits.old.items sealed.items }
     ensures pass { OnOk result (pass.new.home ≡ pool.now) }
     ensures records { (lockstep : Bool) → AreQueuesOf lockstep script.now pool.now queues.items → IfOk result (λ v. AreRecordsIn lockstep script.now kits.old.items v.items) }
     ensures kits { OnOk result (KeepFrames kits.old.items kits.new.items) }
@@ -89,10 +80,7 @@ fn queue_record(
     kits: &mut Vec<Kit>,
     sealed: Vec<Segment>,
 ) -> Result<QueueRecord, NoMemory>
-    requires pass { pass.old.home ≡ pool.now }
-    requires home { queue.constants.home ≡ pool.now }
-    requires next { AreNext queue kits.old.items }
-    requires sealed { HasSealedNext kits.old.items sealed.items }
+    requires { CanEndQueue pool.now pass.old queue kits.old.items sealed.items }
     ensures pass { OnOk result (pass.new.home ≡ pool.now) }
     ensures kept { IfOk result (λ r. IsKeptOf queue.constants r) }
     ensures kits { IfOk result (λ r. EachEndsPoster (history_of r) kits.old.items kits.new.items) }
@@ -123,11 +111,7 @@ fn frame_records(
     kits: &mut Vec<Kit>,
     mut sealed: Vec<Vec<Sequence<FrameEntry>>>,
 ) -> Result<Vec<FrameRecord>, NoMemory>
-    requires fits { script.now.threads + script.now.loopers < 100 }
-    requires choreographers { AreChoreographersOf script.now choreographers.items }
-    requires count { length kits.old.items ≡ sender_count script.now }
-    requires kits { HaveAllPasses (frames_for script.now choreographers.items) kits.old.items }
-    requires sealed { AreFramesSealed kits.old.items sealed.items }
+    requires { CanEndFrames script.now choreographers.items kits.old.items sealed.items }
     ensures frames { IfOk result (λ v. AreFramesIn script.now kits.old.items v.items) }
     ensures pool { (pool : TableId) → AreOfPool pool kits.old.items → OnOk result (AreOfPool pool kits.new.items) }
 {
@@ -151,11 +135,7 @@ fn frame_record(
     kits: &mut Vec<Kit>,
     parts: Vec<Sequence<FrameEntry>>,
 ) -> Result<FrameRecord, NoMemory>
-    requires fits { script.now.threads + script.now.loopers < 100 }
-    requires looper { looper < script.now.loopers }
-    requires constants { choreographer.constants ≡ frame_constants script.now looper }
-    requires kits { HaveNextPasses script.now looper choreographer kits.old.items }
-    requires sealed { HasSealedNextFrames kits.old.items parts.items }
+    requires { CanEndChoreographer script.now looper choreographer kits.old.items parts.items }
     ensures record { IfOk result (λ r. IsFrameRun script.now r × (r.looper ≡ looper)) }
     ensures theirs { IfOk result (λ r. AreOfNextPasses script.now looper kits.old.items r.entries) }
     ensures kits { OnOk result (HaveFramesLeft (λ k. length (given_of script.now looper choreographer k)) kits.old.items kits.new.items) }

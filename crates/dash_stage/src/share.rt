@@ -1,16 +1,13 @@
 //! All senders come to have seen the same of each queue's history, and heard the same of each choreographer's.
-ghost use Rattle.std.specs.Prelude.{◌≡◌, ◌<◌, Bool, false, IsSome};
-ghost use Rattle.shared_queue.specs.Known.{IsOf};
-ghost use Rattle.dash_hall.specs.Kits.{IsHall};
-ghost use Rattle.dash_stage.specs.BehindThreads.{HasHeardThreads};
-ghost use Rattle.dash_stage.specs.ByClock.{EachIsThread};
-ghost use Rattle.dash_stage.specs.Controllers.{IsControllerIn};
+ghost use Rattle.std.specs.Prelude.{◌≡◌, ◌<◌, Bool};
+ghost use Rattle.dash_stage.specs.ByClock.{CanHearThreads, HearsAllThreads};
 ghost use Rattle.dash_stage.specs.Stages.{IsStage, IsStageIn};
-ghost use Rattle.choreographer.specs.Known.{IsOf as IsFrameOf, HasHeardWho};
-ghost use Rattle.dash_hall.specs.Hearing.{HasHeard, HaveHeard, HaveHeardAt, AtEach, AreKept, AreReady, AreKnown, PassHasHeard, ArePassesReady, ArePassesKnown};
-ghost use Rattle.dash_stage.specs.Sharing.{AreWithin, ControllerKeeps, StageKeeps, OfThreads, OfPasses, OfLoopers, SharesAt, HaveSeenTheSame, SharesFramesAt, HaveHeardTheSame, HaveShared};
-ghost use Rattle.dash_threads.specs.Threads.{ThreadKeeps, TellsPass, HearsPass};
-ghost use Rattle.dash_loopers.specs.Loopers.{LooperKeeps, OfItsPasses, HearsPasses};
+ghost use Rattle.dash_hall.specs.Hearing.{HaveHeardAt, AtEach, AreKept, AreKnown, ArePassesKnown};
+ghost use Rattle.dash_stage.specs.Sharing.{StageKeeps, OfThreads, OfPasses, OfLoopers, SharesAt, SharesFramesAt, HaveHeardTheSame, HaveShared};
+ghost use Rattle.dash_stage.specs.Sharing.{HaveSharedQueues, CanShareBy, HaveSharedBy, CanHearFrom, ThreadsHaveTold, CanHearLoopers, LoopersHaveTold};
+ghost use Rattle.dash_stage.specs.Sharing.{CanSharePasses, HaveSharedPasses, CanHearPasses, HaveToldPass};
+ghost use Rattle.dash_threads.specs.Threads.{ThreadKeeps, HearsPass};
+ghost use Rattle.dash_loopers.specs.Loopers.{LooperKeeps};
 
 use crate::control::Controller;
 use crate::stage::Stage;
@@ -36,8 +33,7 @@ impl Stage {
     pub(crate) fn share_each(&mut self, script: &Script)
         requires stage { IsStageIn self.old.hall.lockstep script.now self.old }
         ensures stage { (lockstep : Bool) → IsStageIn lockstep script.now self.old → IsStageIn lockstep script.now self.new }
-        ensures kept { StageKeeps HaveHeard self.old self.new }
-        ensures shared { HaveSeenTheSame self.new }
+        ensures shares { HaveSharedQueues self.old self.new }
     {
         for looper in 0..script.loopers {
             self.share_queue(script, looper as usize);
@@ -93,12 +89,8 @@ pub(crate) fn hear_threads(
     threads: &mut [PostingThread],
     controller: &mut Controller,
 )
-    requires hall { IsHall script.now hall.now }
-    requires threads { EachIsThread script.now hall.now threads.old }
-    requires controller { IsControllerIn false script.now hall.now controller.old }
-    ensures threads { AtEach (ThreadKeeps AreKept) threads.old threads.new }
-    ensures controller { ControllerKeeps HaveHeard controller.old controller.new }
-    ensures heard { HasHeardThreads threads.new controller.new }
+    requires { CanHearThreads script.now hall.now threads.old controller.old }
+    ensures { HearsAllThreads threads.old threads.new controller.old controller.new }
 {
     for looper in 0..script.loopers {
         let place = looper as usize;
@@ -119,13 +111,8 @@ fn share_by(
     loopers: &mut [StageLooper],
     poster: &mut Poster<PoolClaim>,
 )
-    requires threads { OfThreads (AreReady place queue.now) threads.old }
-    requires loopers { OfLoopers (AreReady place queue.now) loopers.old }
-    requires within { AreWithin loopers.old }
-    requires poster { IsOf poster.old queue.now }
-    ensures threads { AtEach (ThreadKeeps (HaveHeardAt place poster.new.view.seen)) threads.old threads.new }
-    ensures loopers { AtEach (LooperKeeps (HaveHeardAt place poster.new.view.seen)) loopers.old loopers.new }
-    ensures poster { HasHeard poster.old poster.new }
+    requires { CanShareBy place queue.now threads.old loopers.old poster.old }
+    ensures { HaveSharedBy place threads.old threads.new loopers.old loopers.new poster.old poster.new }
 {
     threads_tell(queue, place, threads, poster);
     loopers_tell(queue, place, loopers, poster);
@@ -141,13 +128,8 @@ fn share_passes(
     looper: &mut StageLooper,
     pass: &mut FramePass,
 )
-    requires threads { OfPasses (ArePassesReady place choreographer.now) threads.old }
-    requires parts { IsSome looper.old.parts }
-    requires looper { OfItsPasses (λ p. IsFrameOf p choreographer.now) looper.old }
-    requires pass { IsFrameOf pass.old choreographer.now }
-    ensures threads { AtEach (HearsPass place pass.new.view.heard) threads.old threads.new }
-    ensures looper { HearsPasses pass.new.view.heard looper.old looper.new }
-    ensures pass { PassHasHeard pass.old pass.new × HasHeardWho pass.new }
+    requires { CanSharePasses place choreographer.now threads.old looper.old pass.old }
+    ensures { HaveSharedPasses place threads.old threads.new looper.old looper.new pass.old pass.new }
 {
     threads_tell_passes(choreographer, place, threads, pass);
     looper.tell_passes(choreographer, pass);
@@ -162,11 +144,8 @@ fn threads_tell_passes(
     threads: &mut [PostingThread],
     other: &mut FramePass,
 )
-    requires ready { OfPasses (ArePassesReady place choreographer.now) threads.old }
-    requires other { IsFrameOf other.old choreographer.now }
-    ensures kept { AtEach TellsPass threads.old threads.new }
-    ensures heard { PassHasHeard other.old other.new }
-    ensures told { OfPasses (ArePassesKnown place other.new.view.heard) threads.old }
+    requires { CanHearPasses place choreographer.now threads.old other.old }
+    ensures { HaveToldPass place threads.old threads.new other.old other.new }
 {
     for k in 0..threads.len() {
         threads[k].tell_pass(choreographer, place, other);
@@ -180,8 +159,7 @@ fn threads_hear_passes(
     threads: &mut [PostingThread],
     other: &mut FramePass,
 )
-    requires ready { OfPasses (ArePassesReady place choreographer.now) threads.old }
-    requires other { IsFrameOf other.old choreographer.now }
+    requires at { CanHearPasses place choreographer.now threads.old other.old }
     requires known { OfPasses (ArePassesKnown place other.old.view.heard) threads.old }
     ensures kept { AtEach (HearsPass place other.old.view.heard) threads.old threads.new }
     ensures other { other.new ≡ other.old }
@@ -198,11 +176,8 @@ fn threads_tell(
     threads: &mut [PostingThread],
     other: &mut Poster<PoolClaim>,
 )
-    requires ready { OfThreads (AreReady place queue.now) threads.old }
-    requires other { IsOf other.old queue.now }
-    ensures kept { AtEach (ThreadKeeps AreKept) threads.old threads.new }
-    ensures heard { HasHeard other.old other.new }
-    ensures told { OfThreads (AreKnown place other.new.view.seen) threads.old }
+    requires { CanHearFrom place queue.now threads.old other.old }
+    ensures { ThreadsHaveTold place threads.old threads.new other.old other.new }
 {
     for k in 0..threads.len() {
         threads[k].tell(queue, place, other);
@@ -216,12 +191,8 @@ fn loopers_tell(
     loopers: &mut [StageLooper],
     other: &mut Poster<PoolClaim>,
 )
-    requires ready { OfLoopers (AreReady place queue.now) loopers.old }
-    requires within { AreWithin loopers.old }
-    requires other { IsOf other.old queue.now }
-    ensures kept { AtEach (LooperKeeps AreKept) loopers.old loopers.new }
-    ensures heard { HasHeard other.old other.new }
-    ensures told { OfLoopers (AreKnown place other.new.view.seen) loopers.old }
+    requires { CanHearLoopers place queue.now loopers.old other.old }
+    ensures { LoopersHaveTold place loopers.old loopers.new other.old other.new }
 {
     for k in 0..loopers.len() {
         loopers[k].tell(queue, place, other);
@@ -235,8 +206,7 @@ fn threads_hear(
     threads: &mut [PostingThread],
     other: &mut Poster<PoolClaim>,
 )
-    requires ready { OfThreads (AreReady place queue.now) threads.old }
-    requires other { IsOf other.old queue.now }
+    requires at { CanHearFrom place queue.now threads.old other.old }
     requires known { OfThreads (AreKnown place other.old.view.seen) threads.old }
     ensures kept { AtEach (ThreadKeeps (HaveHeardAt place other.old.view.seen)) threads.old threads.new }
     ensures other { other.new ≡ other.old }
@@ -253,9 +223,7 @@ fn loopers_hear(
     loopers: &mut [StageLooper],
     other: &mut Poster<PoolClaim>,
 )
-    requires ready { OfLoopers (AreReady place queue.now) loopers.old }
-    requires within { AreWithin loopers.old }
-    requires other { IsOf other.old queue.now }
+    requires at { CanHearLoopers place queue.now loopers.old other.old }
     requires known { OfLoopers (AreKnown place other.old.view.seen) loopers.old }
     ensures kept { AtEach (LooperKeeps (HaveHeardAt place other.old.view.seen)) loopers.old loopers.new }
     ensures other { other.new ≡ other.old }

@@ -5,7 +5,7 @@ ghost use Rattle.dash_script.specs.Reading.{HasText};
 ghost use Rattle.dash_hall.specs.Kits.{IsHall};
 ghost use Rattle.dash_threads.specs.Threads.{IsThread};
 ghost use Rattle.dash_loopers.specs.Loopers.{IsLooper};
-ghost use Rattle.dash_stage.specs.Stages.{AreThreads, AreLoopers, RunOn, RunsBlock, GoOn, LoopersGoOn};
+ghost use Rattle.dash_stage.specs.Stages.{CanRunBlock, CanRunRound, AreThreads, RunOn, RunsBlock, GoOn, LoopersGoOn};
 ghost use Rattle.dash_stage.specs.Turns.{has_turn, RunsInTurn, HaveRunRound};
 
 use crate::agenda::Spread;
@@ -47,9 +47,7 @@ pub(crate) fn run_threads<R: Threads + Wait + Sync, G: Gate + Sync>(
     block: &Block,
     threads: &mut [PostingThread],
 ) -> Result<(), NoMemory>
-    requires text { HasText script.now }
-    requires hall { IsHall script.now hall.now }
-    requires threads { AreThreads script.now hall.now threads.old }
+    requires { CanRunBlock script.now hall.now threads.old }
     ensures threads { AreThreads script.now hall.now threads.new }
     ensures run { OnOk result (RunOn script.now block.now threads.old threads.new) }
 {
@@ -114,9 +112,7 @@ pub(crate) fn run_loopers<R: Threads + Wait + Sync, G: Gate + Sync>(
     loopers: &mut [StageLooper],
 ) -> Result<(), NoMemory>
     requires count { 0 < count }
-    requires hall { IsHall script.now hall.now }
-    requires mode { hall.now.lockstep ≡ true }
-    requires loopers { AreLoopers script.now hall.now loopers.old }
+    requires can { CanRunRound script.now hall.now loopers.old }
     ensures on { OnOk result (LoopersGoOn loopers.new) }
     ensures round { HaveRunRound turn script.now hall.now now loopers.old loopers.new }
 {

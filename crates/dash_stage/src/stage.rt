@@ -1,16 +1,10 @@
 //! The event times of a run, and what comes at each.
-ghost use Rattle.std.specs.Prelude.{◌≡◌, ◌<◌, ◌≤◌, ◌⊎◌, ℕ, max, true, Some, None, slice_index_or, IfOk, OnOk};
-ghost use Rattle.looper_run.specs.Round.{is_ended};
-ghost use Rattle.dash_script.specs.Reading.{HasText};
-ghost use Rattle.dash_stage.specs.declared.side.Turn.TheVariants.{All};
-ghost use Rattle.dash_stage.specs.Controllers.{HasReached, IsClosing, OtherPassesStay};
-ghost use Rattle.dash_stage.specs.Moves.{MayBeMovedTo, IsAwaited};
+ghost use Rattle.std.specs.Prelude.{◌≡◌, ◌<◌, ◌≤◌, ◌⊎◌, ℕ, true, Some, IfOk, OnOk};
 ghost use Rattle.dash_stage.specs.RunEnds.{HasBegunInLockstep, HasEndedInLockstep, EndsThere};
-ghost use Rattle.dash_stage.specs.Sharing.{HaveSeenTheSame};
 ghost use Rattle.dash_stage.specs.Stages.{IsStage, OthersHaveEnded};
-ghost use Rattle.dash_stage.specs.Steps.{IsUnderWay, IsGoal, HasGoneTo, GoesTo, MovesOn, RunsNext, StandsStill, StaysAt, StaysFromRest, Settles, OnlyLooked, RestsUnlessGrown};
-ghost use Rattle.dash_stage.specs.Timeliness.{AreRested, AreDue, NotLater, NotLaterThanWait, LooksUnlessEnded};
-ghost use Rattle.dash_stage.specs.Turns.{HaveTakenTurns};
+ghost use Rattle.dash_stage.specs.Steps.{IsUnderWay, IsGoal, IsAtEnd, GoesTo, MovesOn, RunsNext, StandsStill, StaysAndShares, Settles};
+ghost use Rattle.dash_stage.specs.Steps.{FindsNext, FindsNextOn, TakesRound, TakesRounds, ClosesFromRest};
+ghost use Rattle.dash_stage.specs.Timeliness.{NotLater};
 
 use crate::agenda::Agenda;
 use crate::control::Controller;
@@ -46,7 +40,6 @@ impl Stage {
         means: &Means<R, G>,
         script: &Script,
     ) -> Result<(), NoMemory>
-        requires text { HasText script.now }
         requires begun { HasBegunInLockstep script.now self.old }
         ensures stage { IsStage script.now self.new }
         ensures out { OnOk result (HasEndedInLockstep script.now self.new) }
@@ -72,11 +65,9 @@ impl Stage {
         time: u64,
         agenda: &mut Agenda,
     ) -> Result<(), NoMemory>
-        requires text { HasText script.now }
         requires way { IsUnderWay script.now self.old }
         requires goal { IsGoal script.now time self.old }
         ensures way { IsUnderWay script.now self.new }
-        ensures gone { OnOk result (HasGoneTo time self.new) }
         ensures goes { OnOk result (GoesTo script.now time self.old self.new) }
     {
         for _ in means.rt.forever() {
@@ -98,7 +89,6 @@ impl Stage {
         script: &Script,
         agenda: &mut Agenda,
     ) -> Result<(), NoMemory>
-        requires text { HasText script.now }
         requires stage { IsStage script.now self.old }
         ensures still { StandsStill script.now self.old self.new }
         ensures settles { OnOk result (Settles script.now self.old self.new) }
@@ -115,8 +105,7 @@ impl Stage {
     fn hand_out<R: Wait>(&mut self, rt: &R, script: &Script) -> Result<(), NoMemory>
         requires stage { IsStage script.now self.old }
         ensures still { StandsStill script.now self.old self.new }
-        ensures at { OnOk result (StaysAt script.now self.old self.new) }
-        ensures same { OnOk result (HaveSeenTheSame self.new) }
+        ensures shares { OnOk result (StaysAndShares script.now self.old self.new) }
     {
         self.controller.seal(rt, &self.hall, script)?;
         self.share(script);
@@ -126,10 +115,7 @@ impl Stage {
     /// The least time at which a message is due or a pulse comes, in milliseconds.
     fn next_due<R: Wait>(&mut self, rt: &R, script: &Script, agenda: &mut Agenda) -> Option<u64>
         requires stage { IsStage script.now self.old }
-        ensures looked { OnlyLooked script.now self.old self.new }
-        ensures due { (t : ℕ) → AreRested script.now self.old → NotLater t result → AreDue script.now t self.old }
-        ensures reason { (t : ℕ) → AreRested script.now self.old → result ≡ Some t → MayBeMovedTo script.now t self.old.controller }
-        ensures look { (k : ℕ) → k < script.now.loopers → LooksUnlessEnded k self.old.loopers.items self.old.controller self.new.controller result }
+        ensures { FindsNext script.now self.old self.new result }
     {
         let mut next = None;
         for looper in 0..script.loopers {
@@ -144,12 +130,7 @@ impl Stage {
     fn due_on<R: Wait>(&mut self, rt: &R, script: &Script, looper: u32) -> Option<u64>
         requires stage { IsStage script.now self.old }
         requires looper { looper < script.now.loopers }
-        ensures looked { OnlyLooked script.now self.old self.new }
-        ensures due { NotLaterThanWait looper self.old.loopers.items result }
-        ensures reason { (t : ℕ) → result ≡ Some t → IsAwaited script.now t looper self.old.loopers.items }
-        ensures look { LooksUnlessEnded looper self.old.loopers.items self.old.controller self.new.controller result }
-        ensures over { (l : StageLooper) → is_ended (slice_index_or self.old.loopers.items looper l).last ≡ true → result ≡ None }
-        ensures elsewhere { OtherPassesStay looper self.old.controller self.new.controller }
+        ensures { FindsNextOn looper script.now self.old self.new result }
     {
         if self.loopers[looper as usize].has_ended() {
             return None;
@@ -163,8 +144,6 @@ impl Stage {
         requires way { IsUnderWay script.now self.old }
         requires end { time ≤ script.now.end }
         ensures way { IsUnderWay script.now self.new }
-        ensures time { self.new.time ≡ max self.old.time time }
-        ensures reached { IfOk result (λ moved. moved ≡ true → HasReached time self.new.controller) }
         ensures on { IfOk result (MovesOn script.now time self.old self.new) }
     {
         self.time = self.time.max(time);
@@ -180,7 +159,6 @@ impl Stage {
         script: &Script,
         block: &Block,
     ) -> Result<(), NoMemory>
-        requires text { HasText script.now }
         requires stage { IsStage script.now self.old }
         ensures still { StandsStill script.now self.old self.new }
         ensures next { OnOk result (RunsNext script.now block.now self.old self.new) }
@@ -204,12 +182,9 @@ impl Stage {
         turn: Turn,
         agenda: &mut Agenda,
     ) -> Result<(), NoMemory>
-        requires text { HasText script.now }
         requires stage { IsStage script.now self.old }
         ensures still { StandsStill script.now self.old self.new }
-        ensures at { OnOk result (StaysAt script.now self.old self.new) }
-        ensures turns { OnOk result (HaveTakenTurns turn self.old.loopers.items self.new.loopers.items) }
-        ensures rested { turn ≡ All → HaveSeenTheSame self.old → OnOk result (AreRested script.now self.new) }
+        ensures rounds { OnOk result (TakesRounds turn script.now self.old self.new) }
     {
         for _ in means.rt.forever() {
             let before = self.controller.entries_seen();
@@ -231,14 +206,10 @@ impl Stage {
         turn: Turn,
         count: usize,
     ) -> Result<(), NoMemory>
-        requires text { HasText script.now }
         requires count { 0 < count }
         requires stage { IsStage script.now self.old }
         ensures still { StandsStill script.now self.old self.new }
-        ensures at { OnOk result (StaysAt script.now self.old self.new) }
-        ensures turns { OnOk result (HaveTakenTurns turn self.old.loopers.items self.new.loopers.items) }
-        ensures same { OnOk result (HaveSeenTheSame self.new) }
-        ensures rested { OnOk result (RestsUnlessGrown turn script.now self.old self.new) }
+        ensures round { OnOk result (TakesRound turn script.now self.old self.new) }
     {
         run_loopers(
             means,
@@ -261,9 +232,7 @@ impl Stage {
         script: &Script,
         agenda: &mut Agenda,
     ) -> Result<(), NoMemory>
-        requires text { HasText script.now }
-        requires way { IsUnderWay script.now self.old }
-        requires reached { HasReached script.now.end self.old.controller }
+        requires { IsAtEnd script.now self.old }
         ensures stage { IsStage script.now self.new }
         ensures ends { OnOk result (EndsThere script.now self.old self.new) }
     {
@@ -288,11 +257,9 @@ impl Stage {
 
     /// The controller quits safely each looper but the main one that has not ended.
     fn quit_others<R: Wait>(&mut self, rt: &R, script: &Script) -> Result<(), NoMemory>
-        requires way { IsUnderWay script.now self.old }
-        requires reached { HasReached script.now.end self.old.controller }
+        requires { IsAtEnd script.now self.old }
         ensures stage { IsStage script.now self.new }
-        ensures closing { OnOk result (IsClosing script.now self.new.controller) }
-        ensures at { OnOk result (StaysFromRest script.now self.old self.new) }
+        ensures closes { OnOk result (ClosesFromRest script.now self.old self.new) }
     {
         for looper in 1..script.loopers {
             if !self.loopers[looper as usize].has_ended() {

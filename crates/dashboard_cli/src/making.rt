@@ -1,11 +1,14 @@
 // The text of each command, made whole before it is written.
 ghost use Rattle.std.specs.Prelude.{◌≡◌, [], None, IfErr, IfOk};
+ghost use Rattle.dash_script.specs.Reading.{HasText};
 ghost use Rattle.dashboard_cli.specs.Answers.{CountsReads};
 ghost use Rattle.dashboard_cli.specs.Steps.{HasRun, HasRunFree, Stops, IsNone, MakesProduct};
 ghost use Rattle.dashboard_cli.specs.Works.{scripts};
 ghost use Rattle.dashboard_cli.specs.OtherWorks.{inbox_scripts, plans, traces, IsInboxText};
 ghost use Rattle.dashboard_cli.specs.Words.{work, work_by};
 ghost use Rattle.inbox_queue.specs.InboxRun.{IsInboxRun};
+ghost use Rattle.run_model.specs.Run.{IsStaged};
+ghost use Rattle.run_model.specs.ByClock.{IsStagedByClock};
 ghost use Rattle.value_animator.specs.Plans.{AreValues};
 ghost use Rattle.value_animator.specs.Run.{IsRunOf};
 
@@ -17,7 +20,7 @@ use crate::verdict::{judge, verdict_text};
 use crate::words::Command;
 use dash_report::{report_text, summary_text};
 use dash_script::{Script, make_script, migrate, print};
-use dash_stage::{run_free, run_script};
+use dash_stage::{Ran, run_free, run_script};
 use frame_phases::FrameRecord;
 use inbox_queue::{InboxRan, InboxReport, run_inbox};
 use loop_io::{Clock, Gate, Source};
@@ -223,7 +226,7 @@ fn run_made<R: Threads + Wait + Sync, G: Gate + Sync>(
     ensures stopped { IfErr result (λ status. status ≡ Status.NoMemory) }
 {
     let script = make_script(alloc, number)?;
-    let report = run_script(rt, alloc, script, gate)?;
+    let report = run(rt, alloc, script, gate)?;
     let text = summary_text(alloc, number, &report)?;
     let returned = Returned::report(report);
     Ok(Product { text, returned })
@@ -310,7 +313,7 @@ fn read_and_run<R: Threads + Wait + Sync, S: Source, G: Gate + Sync>(
 {
     let input = read_input(alloc, source, MOST_BYTES)?;
     let script = read_script(alloc, input.as_slice())?;
-    Ok(run_script(rt, alloc, script, gate)?)
+    Ok(run(rt, alloc, script, gate)?)
 }
 
 /// Reads a script and runs it by the clock.
@@ -327,7 +330,42 @@ fn read_and_run_free<
 {
     let input = read_input(alloc, source, MOST_BYTES)?;
     let script = read_script(alloc, input.as_slice())?;
-    Ok(run_free(rt, alloc, script, clock, gate)?)
+    Ok(run_by_clock(rt, alloc, script, clock, gate)?)
+}
+
+/// Runs a script by the clock.
+fn run_by_clock<R: Threads + Wait + time::Clock + Sync, C: Clock + Sync, G: Gate + Sync>(
+    rt: &R,
+    alloc: Global,
+    script: Script,
+    clock: &C,
+    gate: &G,
+) -> Result<Report, NoMemory>
+    requires { HasText script }
+    ensures run { IfOk result (λ report. IsStagedByClock (C.shows clock.now) script report) }
+    ensures of { IfOk result (λ report. report.script ≡ script) }
+{
+    match run_free(rt, alloc, script, clock, gate) {
+        Ran::Ok(report) => Ok(report),
+        Ran::NoMemory => Err(NoMemory),
+    }
+}
+
+/// Runs a script.
+fn run<R: Threads + Wait + Sync, G: Gate + Sync>(
+    rt: &R,
+    alloc: Global,
+    script: Script,
+    gate: &G,
+) -> Result<Report, NoMemory>
+    requires { HasText script }
+    ensures run { IfOk result (λ report. IsStaged script report) }
+    ensures of { IfOk result (λ report. report.script ≡ script) }
+{
+    match run_script(rt, alloc, script, gate) {
+        Ran::Ok(report) => Ok(report),
+        Ran::NoMemory => Err(NoMemory),
+    }
 }
 
 /// Runs the script of a text through an inbox.

@@ -1,7 +1,7 @@
 -- The times to which a queue's time was moved, as its history goes on, and that main's was moved to a block's at its start.
 use Rattle.std.proofs.Common.{◌≡◌, ℕ, max, Bool, true, false, List, [], ◌∷◌, ◌++◌, inl, inr, refl, sym, ap, ◌∙◌, subst, arith}
 use Rattle.std.specs.Prelude.{◌==◌, nat_lt, if◌then◌else◌}
-use Rattle.std.proofs.lemmas.Bool.{and_from, cases_Bool, or_cases, or_left, or_right, or_parts, eq-eqb, eqb-true}
+use Rattle.std.proofs.lemmas.Bool.{cases_Bool, or_parts, eqb-true}
 use mathlib.Core.Logic.{dite}
 use native.Mathlib.Decide.{dec_lt}
 use Rattle.loop_model.specs.declared.entry.Entry.{Entry}
@@ -11,7 +11,7 @@ use Rattle.loop_model.specs.Answers.{clock, has_disposed, has_halted}
 use Rattle.loop_model.proofs.Growing.{entry_by_entry}
 use Rattle.dash_script.specs.declared.script.Script.{Script}
 use Rattle.run_model.specs.Planned.{entries_by, controller, sender_count}
-use Rattle.run_model.specs.Control.{Before, before, InBlock, is_advance, is_on_time, is_reached}
+use Rattle.run_model.specs.Control.{Before, before, InBlock, is_on_time, is_reached}
 use Rattle.run_model.proofs.RunLaws.{entries_by-own, entries_by-unchanged}
 use Rattle.dash_loopers.specs.Loopers.{IsSoundOn, setting_for}
 use Rattle.run_model.proofs.FreshLaws.{start_reached, reached_on, reached_by_last}

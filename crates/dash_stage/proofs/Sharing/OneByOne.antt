@@ -4,7 +4,7 @@ use Rattle.loop_model.specs.declared.entry.Entry.{Entry}
 use Rattle.looper_run.specs.Holding.{Sender}
 use Rattle.dash_hall.specs.Hearing.{HasHeard, AtEach, AreKnown}
 use Rattle.dash_hall.proofs.Hearing.{known_more, heard_then}
-use Rattle.dash_hall.proofs.Sharing.{FirstAre, next_within, first_more, first_all, first_weaker}
+use Rattle.dash_hall.proofs.Sharing.{FirstAre, next_within, first_more, first_all, first_weaker, each_weaker}
 
 -- a sender that is kept, and whose poster at this place is known
 pub record Tells {X : Type 0} (posters : X → List Sender) (Keeps : X → X → Type 0) (place : ℕ) (whole : List Entry) (before after : X) : Type 0 where
@@ -41,8 +41,12 @@ module _ {X : Type 0} (posters : X → List Sender) where
         )
 
     -- all told it
-    pub all_told : (whole : List Entry) → length xs ≤ k → FirstAre (Tells posters Keeps place whole) k xs ys → (j : ℕ) (d : X) → j < length xs → AreKnown place whole (posters (get_or xs j d))
-    all_told whole all told j d lt = ((first_all (Tells posters Keeps place whole) xs ys k all told).each j d lt).told
+    pub all_told : (whole : List Entry) → length xs ≤ k → FirstAre (Tells posters Keeps place whole) k xs ys
+        → AtEach Keeps xs ys × ((j : ℕ) (d : X) → j < length xs → AreKnown place whole (posters (get_or xs j d)))
+    all_told whole all told =
+        let tells = Tells posters Keeps place whole in
+        let each = first_all tells xs ys k all told in
+        (each_weaker tells Keeps xs ys (λ x y t. t.kept) each, λ j d lt. (each.each j d lt).told)
 
 -- the next one heard a poster, which is as it was
 pub heard_next : {X : Type 0} (Keeps : List Entry → X → X → Type 0) (xs ys : List X) (k : ℕ) (e y : X) (a b c : Sender) → FirstAre (Keeps a.view.seen) k xs ys × (b ≡ a) → k < length ys

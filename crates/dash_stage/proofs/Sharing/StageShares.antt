@@ -87,6 +87,7 @@ stage_kept {lockstep} s a b k is =
     let longs = k.threads.long in
     let longs' = k.loopers.long in
     record {
+      text = is.text;
       hall = subst (IsHall s) (sym hall) is.hall;
       threads = subst (λ (h : Hall). AreThreads s h b.threads.items) (sym hall) (
         longs ∙ is.threads.0,

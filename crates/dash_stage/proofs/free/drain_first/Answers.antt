@@ -16,8 +16,8 @@ returns-clause-loopers g c =
     let hall = c.args.hall.now in
     let ls = c.args.loopers.now in
     let it : StageLooper = slice_index_or ls 0 c.index-loopers-0.result in
-    let some : 0 < length ls = subst (λ (n : ℕ). 0 < n) (sym c.requires.loopers.0) c.requires.some in
-    each_set (HasLooped m s hall) ls it c.drain_by_clock.new.self (get_or_default ls 0 c.index-loopers-0.result it some) some (loops_still m s hall ls (λ k d lt. (c.requires.loopers.1 k d lt).0))
+    let some : 0 < length ls = subst (λ (n : ℕ). 0 < n) (sym c.requires.can.loopers.0) c.requires.can.some in
+    each_set (HasLooped m s hall) ls it c.drain_by_clock.new.self (get_or_default ls 0 c.index-loopers-0.result it some) some (loops_still m s hall ls (λ k d lt. (c.requires.can.loopers.1 k d lt).0))
     c.drain_by_clock.ensures.looped
 
 pub returns-clause-others : goal.returns-clause-others

@@ -1,4 +1,4 @@
-use Rattle.std.proofs.Common.{true, ◌≡◌, ◌≤◌, false, true≢false, length, sym, ◌∙◌, arith}
+use Rattle.std.proofs.Common.{◌≡◌, ◌≤◌, false, true≢false, length, sym, ◌∙◌, arith}
 use Rattle.std.proofs.lemmas.Bool.{and_parts}
 use Rattle.run_model.specs.Moments.{Mode}
 use Rattle.run_model.specs.ByClock.{in_free_mode}
@@ -46,7 +46,7 @@ loop-looper-preserved g c =
       controller = done.alone.controller;
       some = omega arith;
       quitting = λ all. (let both = and_parts at.done _ all in
-          quits_more may next c.in-Ok.now long (here both.1) elsewhere at.invariant.some c.in-Ok.ensures.late (at.invariant.quitting both.0));
+          quits_more may next c.in-Ok.now long (here both.1) elsewhere at.invariant.some c.in-Ok.ensures.late.late (at.invariant.quitting both.0));
       bells = still_no_less c.args.controller.now at.controller next at.invariant.bells done.bells;
       more = λ all. (let both = and_parts at.done _ all in
           sees_one c.args.controller.now at.controller next at.looper long
@@ -55,20 +55,25 @@ loop-looper-preserved g c =
           quits_clocked may next c.in-Ok.now long (here both.1) elsewhere m moment (at.invariant.clocked both.0 m moment by));
     }
 
-pub returns-in_default-clause-rung : goal.returns-in_default-clause-rung
-returns-in_default-clause-rung g c = λ given. all_rung c.args.script.now.loopers c.args.controller.now c.give_up.new.self c.ring_all.new.self c.give_up.ensures.bells c.ring_all.ensures.rung
+pub returns-in_default : goal.returns-in_default
+returns-in_default g c = record {
+  heeds = λ given. absurd (true≢false (sym given));
+  quit = λ given. absurd (true≢false (sym given));
+  rung = λ given. all_rung c.args.script.now.loopers c.args.controller.now c.give_up.new.self c.ring_all.new.self c.give_up.ensures.bells c.ring_all.ensures.rung;
+}
 
-pub returns-then-not-done-clause-rung : goal.returns-then-not-done-clause-rung
-returns-then-not-done-clause-rung g c = λ given. (let at = c.loop-looper in all_rung c.args.script.now.loopers c.args.controller.now at.controller c.ring_all-then-not-done.new.self at.invariant.bells c.ring_all-then-not-done.ensures.rung)
+pub returns-then-not-done : goal.returns-then-not-done
+returns-then-not-done g c =
+    let at = c.loop-looper in
+    let wrong : at.done ≡ false = c.if-not-done.true in
+    record {
+      heeds = λ given. absurd (true≢false (sym given ∙ wrong));
+      quit = λ given. absurd (true≢false (sym given ∙ wrong));
+      rung = λ given. all_rung c.args.script.now.loopers c.args.controller.now at.controller c.ring_all-then-not-done.new.self at.invariant.bells c.ring_all-then-not-done.ensures.rung;
+    }
 
-pub returns-else-not-done-clause-rung : goal.returns-else-not-done-clause-rung
-returns-else-not-done-clause-rung g c given = absurd (true≢false (sym c.if-not-done.false ∙ given))
-
-pub returns-then-not-done-clause-quit : goal.returns-then-not-done-clause-quit
-returns-then-not-done-clause-quit g c done = let at = c.loop-looper in let wrong : at.done ≡ false = c.if-not-done.true in absurd (true≢false (sym done ∙ wrong))
-
-pub returns-else-not-done-clause-quit : goal.returns-else-not-done-clause-quit
-returns-else-not-done-clause-quit g c done =
+pub returns-else-not-done : goal.returns-else-not-done
+returns-else-not-done g c =
     let s = c.args.script.now in
     let hall = c.args.hall.now in
     let at = c.loop-looper in
@@ -76,17 +81,12 @@ returns-else-not-done-clause-quit g c done =
     let count = poster_count s hall at.controller c.requires.can.hall.0 at.invariant.controller in
     let all : length at.controller.kit.posters.items ≤ at.looper = omega (arith, count, c.loop-looper-test.false) in
     record {
-      more = at.invariant.more done;
-      controller = in_free s hall at.controller c.requires.can.hall.1 at.invariant.controller;
-      closing = quitting_ends s at.controller at.looper all (at.invariant.quitting done);
-      clocked = at.invariant.clocked done m (of_shown (g.C.Clock.shows c.args.timer.now.clock.now) c.args.timer.now.start c.in-Ok.now c.in-Ok.ensures.moment);
+      heeds = λ done. c.in-Ok.ensures.heeds;
+      quit = λ done. record {
+        more = at.invariant.more done;
+        controller = in_free s hall at.controller c.requires.can.hall.1 at.invariant.controller;
+        closing = quitting_ends s at.controller at.looper all (at.invariant.quitting done);
+        clocked = at.invariant.clocked done m (of_shown (g.C.Clock.shows c.args.timer.now.clock.now) c.args.timer.now.start c.in-Ok.now c.in-Ok.ensures.late.moment);
+      };
+      rung = λ given. absurd (true≢false (sym c.if-not-done.false ∙ given));
     }
-
-pub returns-in_default-clause-heeds : goal.returns-in_default-clause-heeds
-returns-in_default-clause-heeds g c = λ given. absurd (true≢false (sym given))
-
-pub returns-then-not-done-clause-heeds : goal.returns-then-not-done-clause-heeds
-returns-then-not-done-clause-heeds g c = λ given. (let at = c.loop-looper in let wrong : at.done ≡ false = c.if-not-done.true in absurd (true≢false (sym given ∙ wrong)))
-
-pub returns-else-not-done-clause-heeds : goal.returns-else-not-done-clause-heeds
-returns-else-not-done-clause-heeds g c = λ given. c.in-Ok.ensures.heeds

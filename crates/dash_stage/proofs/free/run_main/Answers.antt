@@ -1,4 +1,4 @@
-use Rattle.std.proofs.Common.{rules, ◌<◌, length, subst}
+use Rattle.std.proofs.Common.{rules, ◌<◌, subst}
 use Rattle.run_model.specs.Moments.{Mode}
 use Rattle.run_model.specs.ByClock.{in_free_mode}
 use Rattle.dash_stage.specs.ByClock.{EachRuns, EachLoops}
@@ -6,12 +6,12 @@ use Rattle.dash_stage.proofs.ByClock.Behind.{runs_kept, behind_first}
 use Rattle.dash_stage.proofs.ByClock.ClockEnds.{can_quit}
 use Rattle.dash_stage.proofs.free.run_main.Goals as goal
 
-pub hear_threads-requires-clause-threads : goal.hear_threads-requires-clause-threads
-hear_threads-requires-clause-threads g c k d lt =
+pub hear_threads-requires : goal.hear_threads-requires
+hear_threads-requires g c =
     let m : Mode = in_free_mode (g.C.Clock.shows c.args.timer.now.clock.now) c.args.timer.now.start in
+    let can = c.requires.can in
     let ran : EachRuns m c.args.script.now c.args.hall.now c.args.threads.now c.threads-1.given.0 = search rules in
-    let within : k < length c.args.threads.now = subst (λ n. k < n) ran.long lt in
-    (ran.each k d within).thread
+    record { is_hall = can.hall.0; threads = λ k d lt. (ran.each k d (subst (λ n. k < n) ran.long lt)).thread; controller = can.controller }
 
 pub returns : goal.returns
 returns g c =

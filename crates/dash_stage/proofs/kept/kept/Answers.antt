@@ -12,6 +12,7 @@ use Rattle.dash_stage.specs.RunEnds.{HasEndedBy, HasEndedInLockstep}
 use Rattle.dash_stage.specs.Runs.{HaveRunAll}
 use Rattle.dash_stage.specs.Sharing.{HaveSeenTheSame, OfKits}
 use Rattle.dash_stage.specs.Stages.{HaveRunBy}
+use Rattle.dash_stage.proofs.BlockTimes.Limits.{playable}
 use Rattle.dash_stage.proofs.Sharing.Casting.{all_kits}
 use Rattle.dash_stage.proofs.Ends.Carried.{run_kept, planned_records, numbered_count, called_by_clock}
 use Rattle.dash_stage.proofs.Played.AskedAtEnd.{asked_at_end}
@@ -28,17 +29,22 @@ use Rattle.dash_stage.proofs.Controller.SealedEnds.{all_sealed}
 use Rattle.dash_stage.proofs.Controller.FrameEnds.{all_frames_sealed}
 use Rattle.dash_stage.proofs.kept.kept.Goals as goal
 
-pub records-requires-clause-kits : goal.records-requires-clause-kits
-records-requires-clause-kits c =
-    all_kits c.args.script.now c.args.stage.hall c.looper_kits.new.kits.items c.push.new.self.items c.args.stage.controller c.in_ok-journals.ensures.back.kits c.requires.stage.controller c.in_ok-push.ensures.items
-
-pub records-requires-clause-sealed : goal.records-requires-clause-sealed
-records-requires-clause-sealed c =
-    all_sealed c.looper_kits.new.kits.items c.push.new.self.items c.args.stage.controller c.in_ok-push.ensures.items c.requires.stage.controller.sealed
-
-pub records-requires-clause-sealed_frames : goal.records-requires-clause-sealed_frames
-records-requires-clause-sealed_frames c =
-    all_frames_sealed c.looper_kits.new.kits.items c.push.new.self.items c.args.stage.controller c.in_ok-push.ensures.items c.requires.stage.controller.sealed_frames
+pub records-requires : goal.records-requires
+records-requires c =
+    let s = c.args.script.now in
+    let st = c.args.stage in
+    let is = c.requires.stage in
+    let kits = c.looper_kits.new.kits.items in
+    let kits' = c.push.new.self.items in
+    let grown = c.in_ok-push.ensures.items in
+    record {
+      fits = (playable s is.text).few;
+      is_hall = is.hall;
+      kits = all_kits s st.hall kits kits' st.controller c.in_ok-journals.ensures.back.kits is.controller grown;
+      sealed = all_sealed kits kits' st.controller grown is.controller.sealed;
+      sealed_frames = all_frames_sealed kits kits' st.controller grown is.controller.sealed_frames;
+      home = is.pass;
+    }
 
 pub returns : goal.returns
 returns c =
@@ -56,6 +62,7 @@ returns c =
     let fs = c.in_ok-queues.frames.items in
     let js = c.in_ok-journals.journals.items in
     let ls = st.loopers.items in
+    let can_play = playable s c.requires.stage.text in
     let count = left.kits.0 in
     let is_hall = c.requires.stage.hall in
     let whole = seen_by mine.posters.items in
@@ -83,7 +90,7 @@ returns c =
       planned = planned;
       controls = controls;
       halted = λ m out halted.
-          halted_of_records m s hall kits' qs is_hall are st.controller held (queues m out) are_kept.queues.all (seen out.same) c.requires.playable.loopers halted;
+          halted_of_records m s hall kits' qs is_hall are st.controller held (queues m out) are_kept.queues.all (seen out.same) can_play.loopers halted;
       before_quit = λ out.
           before_quit_of_records in_lockstep s hall kits' qs is_hall are st.controller held (queues in_lockstep (by out)) are_kept.queues.all (seen out.at.timely.same)
           (λ q d lt. (out.at.timely.timely (all_sound s hall kits' qs is_hall are st.controller held (queues in_lockstep (by out)) are_kept.queues.all (seen out.at.timely.same)) q d lt).before_quit);
@@ -92,14 +99,14 @@ returns c =
       timely = λ out.
           timely_of_records s hall kits' qs is_hall are st.controller held (queues in_lockstep (by out)) are_kept.queues.all (seen out.at.timely.same) out.at.timely.timely;
       loopers = λ out.
-          loopers_of_records in_lockstep s hall kits' qs is_hall are st.controller held (queues in_lockstep (by out)) are_kept.queues.all (seen out.at.timely.same) c.requires.playable.few
+          loopers_of_records in_lockstep s hall kits' qs is_hall are st.controller held (queues in_lockstep (by out)) are_kept.queues.all (seen out.at.timely.same) can_play.few
           js fs ls left.journals are_kept.frames.records_are are_kept.frames.own told_all given c.requires.on c.requires.stage.loopers.0
           (stands_in_step s st.controller js kits' ls given c.requires.stage.loopers.0 many (λ k d lt. (c.requires.stage.loopers.1 k d lt).1)
           (out.at.step.played (all_sound s hall kits' qs is_hall are st.controller held (queues in_lockstep (by out)) are_kept.queues.all (seen out.at.timely.same)))
           (asked_at_end s st out.stage out.at.run (all_sound s hall kits' qs is_hall are st.controller held (queues in_lockstep (by out)) are_kept.queues.all (seen out.at.timely.same)) out.at.asks))
           (planned in_lockstep out.at.run) (controls in_lockstep (by out) out.closed) out.stage.controller (run in_lockstep out.at.run) are_kept.frames.theirs;
       by_clock = λ m out.
-          loopers_of_records m s hall kits' qs is_hall are st.controller held (queues m out.out) are_kept.queues.all (seen out.out.same) c.requires.playable.few
+          loopers_of_records m s hall kits' qs is_hall are st.controller held (queues m out.out) are_kept.queues.all (seen out.out.same) can_play.few
           js fs ls left.journals are_kept.frames.records_are are_kept.frames.own told_all given c.requires.on c.requires.stage.loopers.0
           (λ k lt. subst (λ (b : Bool). StandsAt b s st.controller js kits' k) (sym out.free) (stands_by_clock s st.controller js kits' ls given c.requires.stage.loopers.0 many out.ran.played k lt))
           (planned m out.ran.run) (controls m out.out out.closed) out.out.stage.controller (run m out.ran.run) are_kept.frames.theirs;
@@ -109,7 +116,7 @@ returns c =
       first = λ out.
           first_of_records s hall kits' qs is_hall are st.controller held (queues in_lockstep (by out)) are_kept.queues.all (seen out.at.timely.same) out.at.step.first;
       reached = λ out.
-          reached_of_records s hall kits' qs is_hall are st.controller held (queues in_lockstep (by out)) are_kept.queues.all (seen out.at.timely.same) c.requires.playable.loopers out.at.timely.timely;
+          reached_of_records s hall kits' qs is_hall are st.controller held (queues in_lockstep (by out)) are_kept.queues.all (seen out.at.timely.same) can_play.loopers out.at.timely.timely;
       moves = λ out.
           moves_of_records s hall kits' qs is_hall are st.controller held (queues in_lockstep (by out)) are_kept.queues.all (seen out.at.timely.same) out.at.moves;
     }

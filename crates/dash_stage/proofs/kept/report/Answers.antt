@@ -16,7 +16,7 @@ use Rattle.dash_stage.proofs.Sharing.StageShares.{stage_in_its_mode}
 pub returns-in-Ok : goal.returns-in-Ok
 returns-in-Ok c =
     let s = c.args.script in
-    let out = c.requires.out in
+    let out = c.requires in
     let by = ended_in_step s c.args.stage out in
     let queues = subst (λ (l : List QueueRecord). AreQueueRecords in_lockstep s l) (sym c.from_vec.ensures) (c.in-Ok.ensures.queues in_lockstep by) in
     let journals = subst (λ (l : List Journal). AreJournals s l) (sym c.from_vec-in-Ok.ensures) c.in-Ok.ensures.journals in
@@ -47,11 +47,5 @@ returns-in-Ok c =
       };
     }
 
-pub kept-requires-clause-stage : goal.kept-requires-clause-stage
-kept-requires-clause-stage c = stage_in_its_mode c.args.script c.args.stage c.requires.out.stage
-
-pub kept-requires-clause-ended : goal.kept-requires-clause-ended
-kept-requires-clause-ended c = c.requires.out.ended
-
-pub kept-requires-clause-on : goal.kept-requires-clause-on
-kept-requires-clause-on c = c.requires.out.on
+pub kept-requires : goal.kept-requires
+kept-requires c = record { stage = stage_in_its_mode c.args.script c.args.stage c.requires.stage; ended = c.requires.ended; on = c.requires.on }

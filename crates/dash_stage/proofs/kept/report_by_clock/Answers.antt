@@ -4,10 +4,10 @@ use Rattle.loop_model.specs.declared.journal.Journal.{Journal}
 use Rattle.loop_model.specs.declared.record.QueueRecord.{QueueRecord}
 use Rattle.frame_phases.specs.declared.entry.FrameRecord.{FrameRecord}
 use Rattle.run_model.specs.Moments.{Mode}
-use Rattle.run_model.specs.ByClock.{in_free_mode}
 use Rattle.run_model.specs.Run.{IsAsPlanned, IsControlled, IsFrameRun, IsLooperRun, EachLooper, main_ends_halted}
-use Rattle.run_model.specs.Parts.{IsBeforeQuit}
 use Rattle.dash_stage.specs.Records.{AreQueueRecords, AreJournals, AreFrameRecords}
+use Rattle.run_model.specs.ByClock.{in_free_mode}
+use Rattle.run_model.specs.Parts.{IsBeforeQuit}
 use Rattle.dash_stage.proofs.kept.report_by_clock.Goals as goal
 
 pub returns-in-Ok : goal.returns-in-Ok

@@ -37,6 +37,7 @@ returns c =
     record {
       opened = record {
         stage = record {
+          text = c.requires;
           hall = opened.hall;
           threads = ts.threads;
           loopers = ls.loopers;

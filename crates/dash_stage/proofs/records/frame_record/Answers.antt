@@ -13,7 +13,7 @@ pub next_pass-requires : goal.next_pass-requires
 next_pass-requires c =
     let at = c.loop-number in
     let s = c.args.script.now in
-    let few = holder_within s c.args.looper at.number c.requires.looper in
+    let few = holder_within s c.args.looper at.number c.requires.one in
     let held = c.holder.ensures in
     let senders : length c.args.kits.now.items ≡ s.threads + s.loopers + 1 = c.requires.kits.count in
     subst (λ (x : Kit). 0 < length x.frames.items) (sym c.index_mut.ensures.value)
@@ -23,7 +23,7 @@ pub loop-number-preserved : goal.loop-number-preserved
 loop-number-preserved c =
     let at = c.loop-number in
     let s = c.args.script.now in
-    let few = holder_within s c.args.looper at.number c.requires.looper in
+    let few = holder_within s c.args.looper at.number c.requires.one in
     let held = c.holder.ensures in
     let senders : length c.args.kits.now.items ≡ s.threads + s.loopers + 1 = c.requires.kits.count in
     let p = c.next_pass.result in
@@ -42,7 +42,7 @@ into_whole-requires-clause-parts c =
     let over = c.loop-number-test.false in
     let most = at.auto.number-end in
     let all : at.number ≡ s.threads + 3 = omega (arith, over, most) in
-    taken_sealed s c.args.looper c.args.choreographer at.number c.args.kits.now.items at.passes.items at.kits.items c.args.parts.items at.invariant.count all at.invariant.taken c.requires.looper c.requires.kits.count c.requires.sealed
+    taken_sealed s c.args.looper c.args.choreographer at.number c.args.kits.now.items at.passes.items at.kits.items c.args.parts.items at.invariant.count all at.invariant.taken c.requires.one c.requires.kits.count c.requires.sealed
 
 pub returns-clause-record : goal.returns-clause-record
 returns-clause-record c =
@@ -57,7 +57,7 @@ returns-clause-theirs c =
     let all : at.number ≡ s.threads + 3 = omega (arith, over, most) in
     IfOk-weaker c.into_whole.result (λ r. IsWhole c.args.choreographer at.passes.items r.entries) (λ r. AreOfNextPasses s c.args.looper c.args.kits.now.items r.entries)
     (λ r w. record {
-      parted = taken_theirs s c.args.looper c.args.choreographer at.number c.args.kits.now.items at.passes.items at.kits.items r.entries at.invariant.count all at.invariant.taken c.requires.looper w.heard;
+      parted = taken_theirs s c.args.looper c.args.choreographer at.number c.args.kits.now.items at.passes.items at.kits.items r.entries at.invariant.count all at.invariant.taken c.requires.one w.heard;
       own = taken_own s c.args.looper c.args.choreographer at.number c.args.kits.now.items at.passes.items at.kits.items r.entries at.invariant.count all at.invariant.taken w.begins;
     })
     c.into_whole.ensures.whole

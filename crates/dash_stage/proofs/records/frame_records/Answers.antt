@@ -31,30 +31,25 @@ loop-choreographer-init c =
           (subst (λ (l : List FrameRecord). HaveEnded s 0 cs c.args.kits.now.items l c.args.kits.now.items) (sym none) (ended_none s cs c.args.kits.now.items marks));
     }
 
-pub frame_record-requires-clause-looper : goal.frame_record-requires-clause-looper
-frame_record-requires-clause-looper c =
+pub frame_record-requires : goal.frame_record-requires
+frame_record-requires c =
     let at = c.loop-choreographer in
-    let all = c.into_iter-choreographer-iterator.ensures.into_iter_gives.0 in
-    let steps : into_iter_items at.choreographer-iterator ≡ c.in-Some.choreographer ∷ into_iter_items c.next.new.self = c.in-Some.ensures.steps.0 in
-    let parts : at.yielded ++ c.in-Some.choreographer ∷ into_iter_items c.next.new.self ≡ c.args.choreographers.items = ap (λ l. at.yielded ++ l) (sym steps) ∙ (at.invariant.parts ∙ all) in
-    (next_constants c.args.script.now c.args.choreographers.items at.yielded _ c.in-Some.choreographer at.looper parts at.invariant.looper c.requires.choreographers).1
-
-pub frame_record-requires-clause-constants : goal.frame_record-requires-clause-constants
-frame_record-requires-clause-constants c =
-    let at = c.loop-choreographer in
-    let all = c.into_iter-choreographer-iterator.ensures.into_iter_gives.0 in
-    let steps : into_iter_items at.choreographer-iterator ≡ c.in-Some.choreographer ∷ into_iter_items c.next.new.self = c.in-Some.ensures.steps.0 in
-    let parts : at.yielded ++ c.in-Some.choreographer ∷ into_iter_items c.next.new.self ≡ c.args.choreographers.items = ap (λ l. at.yielded ++ l) (sym steps) ∙ (at.invariant.parts ∙ all) in
-    (next_constants c.args.script.now c.args.choreographers.items at.yielded _ c.in-Some.choreographer at.looper parts at.invariant.looper c.requires.choreographers).0
-
-pub frame_record-requires-clause-kits : goal.frame_record-requires-clause-kits
-frame_record-requires-clause-kits c =
-    let at = c.loop-choreographer in
-    let steps : into_iter_items at.choreographer-iterator ≡ c.in-Some.choreographer ∷ into_iter_items c.next.new.self = c.in-Some.ensures.steps.0 in
+    let s = c.args.script.now in
+    let x = c.in-Some.choreographer in
+    let rest = into_iter_items c.next.new.self in
+    let steps : into_iter_items at.choreographer-iterator ≡ x ∷ rest = c.in-Some.ensures.steps.0 in
+    let parts : at.yielded ++ x ∷ rest ≡ c.args.choreographers.items = ap (λ l. at.yielded ++ l) (sym steps) ∙ (at.invariant.parts ∙ c.into_iter-choreographer-iterator.ensures.into_iter_gives.0) in
+    let one = next_constants s c.args.choreographers.items at.yielded rest x at.looper parts at.invariant.looper c.requires.choreographers in
+    let have = next_given s at.looper x rest (into_iter_items at.choreographer-iterator) c.args.kits.now.items at.kits.items at.records.items steps one.1 c.requires.count at.invariant.ended in
     record {
-      count = at.invariant.ended.count ∙ c.requires.count;
-      begin = next_passes c.args.script.now at.looper c.in-Some.choreographer _ at.kits.items
-          (subst (λ (l : List Frames). HaveAllPasses (given_all c.args.script.now at.looper l) at.kits.items) steps at.invariant.ended.marks);
+      fits = c.requires.fits;
+      one = one.1;
+      constants = one.0;
+      kits = record {
+        count = at.invariant.ended.count ∙ c.requires.count;
+        begin = next_passes s at.looper x _ at.kits.items (subst (λ (l : List Frames). HaveAllPasses (given_all s at.looper l) at.kits.items) steps at.invariant.ended.marks);
+      };
+      sealed = sealed_next at.kits.items at.sealed.items at.invariant.sealed have c.remove-parts.result c.remove-parts.ensures.value;
     }
 
 pub remove-parts-requires : goal.remove-parts-requires
@@ -70,18 +65,6 @@ remove-parts-requires c =
     let many = at.invariant.ended.count in
     let senders : length c.args.kits.now.items ≡ s.threads + s.loopers + 1 = c.requires.count in
     subst (λ n. 0 < n) (sym at.sealed.ok.0) (has_list at.kits.items at.sealed.items at.invariant.sealed have (omega (arith, many, senders)))
-
-pub frame_record-requires-clause-sealed : goal.frame_record-requires-clause-sealed
-frame_record-requires-clause-sealed c =
-    let at = c.loop-choreographer in
-    let s = c.args.script.now in
-    let x = c.in-Some.choreographer in
-    let rest = into_iter_items c.next.new.self in
-    let steps : into_iter_items at.choreographer-iterator ≡ x ∷ rest = c.in-Some.ensures.steps.0 in
-    let parts : at.yielded ++ x ∷ rest ≡ c.args.choreographers.items = ap (λ l. at.yielded ++ l) (sym steps) ∙ (at.invariant.parts ∙ c.into_iter-choreographer-iterator.ensures.into_iter_gives.0) in
-    let few = (next_constants s c.args.choreographers.items at.yielded rest x at.looper parts at.invariant.looper c.requires.choreographers).1 in
-    let have = next_given s at.looper x rest (into_iter_items at.choreographer-iterator) c.args.kits.now.items at.kits.items at.records.items steps few c.requires.count at.invariant.ended in
-    sealed_next at.kits.items at.sealed.items at.invariant.sealed have c.remove-parts.result c.remove-parts.ensures.value
 
 pub overflow_add-looper : goal.overflow_add-looper
 overflow_add-looper c =

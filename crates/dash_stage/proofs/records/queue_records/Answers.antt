@@ -14,22 +14,20 @@ use Rattle.dash_stage.proofs.Ends.HallEnds.{next_have, next_queue, next_constant
 use Rattle.dash_stage.proofs.Controller.SealedEnds.{has_list, sealed_next, sealed_rest}
 use Rattle.dash_stage.proofs.records.queue_records.Goals as goal
 
-pub queue_record-requires-clause-home : goal.queue_record-requires-clause-home
-queue_record-requires-clause-home c =
+pub queue_record-requires : goal.queue_record-requires
+queue_record-requires c =
     let at = c.loop-queue in
+    let can = c.requires in
     let all = c.into_iter-queue-iterator.ensures.into_iter_gives.0 in
     let steps : into_iter_items at.queue-iterator ≡ c.in-Some.queue ∷ into_iter_items c.next.new.self = c.in-Some.ensures.steps.0 in
     let parts : at.yielded ++ c.in-Some.queue ∷ into_iter_items c.next.new.self ≡ c.args.queues.items = ap (λ l. at.yielded ++ l) (sym steps) ∙ (at.invariant.parts ∙ all) in
-    let constants = (next_queue c.requires.queues.0 c.args.script.now c.args.pool.now c.args.queues.items at.yielded _ c.in-Some.queue (length at.records.items) c.args.kits.now.items at.kits.items parts at.invariant.count c.requires.queues.1 c.requires.count c.requires.kits at.invariant.retired.left).0 in
-    ap (λ (x : Constants TableId). x.home) constants
-
-pub queue_record-requires-clause-next : goal.queue_record-requires-clause-next
-queue_record-requires-clause-next c =
-    let at = c.loop-queue in
-    let all = c.into_iter-queue-iterator.ensures.into_iter_gives.0 in
-    let steps : into_iter_items at.queue-iterator ≡ c.in-Some.queue ∷ into_iter_items c.next.new.self = c.in-Some.ensures.steps.0 in
-    let parts : at.yielded ++ c.in-Some.queue ∷ into_iter_items c.next.new.self ≡ c.args.queues.items = ap (λ l. at.yielded ++ l) (sym steps) ∙ (at.invariant.parts ∙ all) in
-    (next_queue c.requires.queues.0 c.args.script.now c.args.pool.now c.args.queues.items at.yielded _ c.in-Some.queue (length at.records.items) c.args.kits.now.items at.kits.items parts at.invariant.count c.requires.queues.1 c.requires.count c.requires.kits at.invariant.retired.left).1
+    let one = next_queue can.queues.0 c.args.script.now c.args.pool.now c.args.queues.items at.yielded _ c.in-Some.queue (length at.records.items) c.args.kits.now.items at.kits.items parts at.invariant.count can.queues.1 can.count can.kits at.invariant.retired.left in
+    record {
+      of_pool = at.invariant.pass;
+      home = ap (λ (x : Constants TableId). x.home) one.0;
+      next = one.1;
+      sealed = sealed_next at.kits.items at.sealed.items at.invariant.sealed (next_have c.in-Some.queue at.kits.items one.1) c.remove-parts.result c.remove-parts.ensures.value;
+    }
 
 pub remove-parts-requires : goal.remove-parts-requires
 remove-parts-requires c =
@@ -42,15 +40,6 @@ remove-parts-requires c =
     let senders = c.requires.count in
     let some : 0 < length at.kits.items = omega (arith, many, senders) in
     subst (λ n. 0 < n) (sym at.sealed.ok.0) (has_list at.kits.items at.sealed.items at.invariant.sealed (next_have c.in-Some.queue at.kits.items next) some)
-
-pub queue_record-requires-clause-sealed : goal.queue_record-requires-clause-sealed
-queue_record-requires-clause-sealed c =
-    let at = c.loop-queue in
-    let all = c.into_iter-queue-iterator.ensures.into_iter_gives.0 in
-    let steps : into_iter_items at.queue-iterator ≡ c.in-Some.queue ∷ into_iter_items c.next.new.self = c.in-Some.ensures.steps.0 in
-    let parts : at.yielded ++ c.in-Some.queue ∷ into_iter_items c.next.new.self ≡ c.args.queues.items = ap (λ l. at.yielded ++ l) (sym steps) ∙ (at.invariant.parts ∙ all) in
-    let next = (next_queue c.requires.queues.0 c.args.script.now c.args.pool.now c.args.queues.items at.yielded _ c.in-Some.queue (length at.records.items) c.args.kits.now.items at.kits.items parts at.invariant.count c.requires.queues.1 c.requires.count c.requires.kits at.invariant.retired.left).1 in
-    sealed_next at.kits.items at.sealed.items at.invariant.sealed (next_have c.in-Some.queue at.kits.items next) c.remove-parts.result c.remove-parts.ensures.value
 
 pub loop-queue-preserved : goal.loop-queue-preserved
 loop-queue-preserved c =

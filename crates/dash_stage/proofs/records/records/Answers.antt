@@ -1,4 +1,4 @@
-use Rattle.std.proofs.Common.{◌≡◌, ◌+◌, ◌<◌, List, length, get_or, subst, ◌∙◌, arith}
+use Rattle.std.proofs.Common.{rules, ◌≡◌, ◌+◌, ◌<◌, List, length, get_or, subst, ◌∙◌, arith}
 use mathlib.Core.List.{IsPrefix}
 use Rattle.choreographer.specs.Known.{Known as Pass}
 use Rattle.frame_phases.specs.declared.entry.FrameRecord.{FrameRecord}
@@ -16,7 +16,7 @@ close-requires-clause-kits c =
     (kept.each k d within).pass ∙ (c.requires.kits.each k d within).pass)
 
 pub returns-clause-queues : goal.returns-clause-queues
-returns-clause-queues c = c.in_ok-queues.ensures.records c.args.hall.lockstep c.requires.hall.queues
+returns-clause-queues c = c.in_ok-queues.ensures.records c.args.hall.lockstep c.requires.is_hall.queues
 
 pub returns-clause-frames : goal.returns-clause-frames
 returns-clause-frames c =
@@ -34,9 +34,25 @@ returns-clause-frames c =
           subst (λ (l : List Pass). IsPrefix (get_or l i p).view.seen (get_or fs q r).entries) (kept.each (s.threads + q) d within).frames (frames.own q i d p r small below);
     }
 
-pub queue_records-requires-clause-queues : goal.queue_records-requires-clause-queues
-queue_records-requires-clause-queues c = (c.args.hall.lockstep, c.requires.hall.queues)
+pub queue_records-requires : goal.queue_records-requires
+queue_records-requires c =
+    let can = c.requires in
+    record {
+      home = can.home;
+      queues = (c.args.hall.lockstep, can.is_hall.queues);
+      count = can.kits.count;
+      kits = λ k d lt. (can.kits.each k d lt).posters;
+      sealed = can.sealed;
+    }
 
-pub frame_records-requires-clause-sealed : goal.frame_records-requires-clause-sealed
-frame_records-requires-clause-sealed c =
-    sealed_kept c.args.kits.items c.queue_records.new.kits.items c.args.sealed_frames.items c.in_ok-queues.ensures.kits c.requires.sealed_frames
+pub frame_records-requires : goal.frame_records-requires
+frame_records-requires c =
+    let can = c.requires in
+    let kept = c.in_ok-queues.ensures.kits in
+    record {
+      fits = can.fits;
+      choreographers = can.is_hall.choreographers;
+      count = kept.count ∙ can.kits.count;
+      kits = search rules;
+      sealed = sealed_kept c.args.kits.items c.queue_records.new.kits.items c.args.sealed_frames.items kept can.sealed_frames;
+    }

@@ -11,8 +11,10 @@ loop-k-preserved c =
     let lt : at.k < length at.loopers = omega (arith, c.loop-k-test.true) in
     told_next posters_of (LooperKeeps AreKept) c.args.place c.args.loopers.now at.loopers at.k c.index-loopers-k.result c.tell.new.self c.args.other.now at.other c.tell.new.other at.invariant lt c.tell.ensures.heard c.tell.ensures.kept c.tell.ensures.told
 
-pub returns-clause-told : goal.returns-clause-told
-returns-clause-told c =
+pub returns : goal.returns
+returns c =
     let at = c.loop-k in
-    let all : length c.args.loopers.now ≤ at.k = omega (arith, c.loop-k-test.false) in
-    all_told posters_of (LooperKeeps AreKept) c.args.place c.args.loopers.now at.loopers at.k at.other.view.seen all at.invariant.0
+    let long = at.invariant.0.long in
+    let all : length c.args.loopers.now ≤ at.k = omega (arith, c.loop-k-test.false, long) in
+    let told = all_told posters_of (LooperKeeps AreKept) c.args.place c.args.loopers.now at.loopers at.k at.other.view.seen all at.invariant.0 in
+    record { kept = told.0; heard = at.invariant.1; told = told.1 }

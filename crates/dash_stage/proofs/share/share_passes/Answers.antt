@@ -13,14 +13,12 @@ use Rattle.dash_stage.proofs.share.share_passes.Goals as goal
 pub tell_passes-requires-clause-other : goal.tell_passes-requires-clause-other
 tell_passes-requires-clause-other c = still_of c.args.pass.now c.threads_tell_passes.new.other c.args.choreographer.now c.threads_tell_passes.ensures.heard c.requires.pass
 
-pub threads_hear_passes-requires-clause-ready : goal.threads_hear_passes-requires-clause-ready
-threads_hear_passes-requires-clause-ready c =
-    told_of (ArePassesReady c.args.place c.args.choreographer.now) c.args.threads.now c.threads_tell_passes.new.threads c.threads_tell_passes.ensures.kept c.requires.threads
-
-pub threads_hear_passes-requires-clause-other : goal.threads_hear_passes-requires-clause-other
-threads_hear_passes-requires-clause-other c =
-    still_of c.args.pass.now c.tell_passes.new.other c.args.choreographer.now
-    (pass_heard_then c.args.pass.now c.threads_tell_passes.new.other c.tell_passes.new.other c.threads_tell_passes.ensures.heard c.tell_passes.ensures.heard) c.requires.pass
+pub threads_hear_passes-requires-clause-at : goal.threads_hear_passes-requires-clause-at
+threads_hear_passes-requires-clause-at c = record {
+  ready = told_of (ArePassesReady c.args.place c.args.choreographer.now) c.args.threads.now c.threads_tell_passes.new.threads c.threads_tell_passes.ensures.kept c.requires.threads;
+  pass = still_of c.args.pass.now c.tell_passes.new.other c.args.choreographer.now
+      (pass_heard_then c.args.pass.now c.threads_tell_passes.new.other c.tell_passes.new.other c.threads_tell_passes.ensures.heard c.tell_passes.ensures.heard) c.requires.pass;
+}
 
 pub threads_hear_passes-requires-clause-known : goal.threads_hear_passes-requires-clause-known
 threads_hear_passes-requires-clause-known c =
@@ -45,19 +43,18 @@ hear_passes-requires-clause-known c =
     subst (λ (p : Pass). OfItsPasses (λ q. IsPrefix q.view.heard p.view.heard) c.tell_passes.new.self) (sym c.threads_hear_passes.ensures.other)
     (looper_told (λ q. IsPrefix q.view.heard c.tell_passes.new.other.view.heard) c.args.looper.now c.tell_passes.new.self c.tell_passes.ensures.kept c.tell_passes.ensures.told)
 
-pub returns-clause-threads : goal.returns-clause-threads
-returns-clause-threads c =
+pub returns : goal.returns
+returns c =
     let one = c.threads_tell_passes.new.threads in
-    let whole = c.tell_passes.new.other.view.heard in
-    subst (λ (p : Pass). AtEach (HearsPass c.args.place p.view.heard) c.args.threads.now c.threads_hear_passes.new.threads) (sym (c.hear_passes.ensures.other ∙ c.threads_hear_passes.ensures.other))
-    (each_then TellsPass (HearsPass c.args.place whole) (HearsPass c.args.place whole) c.args.threads.now one c.threads_hear_passes.new.threads (tells_hears c.args.place whole) c.threads_tell_passes.ensures.kept c.threads_hear_passes.ensures.kept)
-
-pub returns-clause-looper : goal.returns-clause-looper
-returns-clause-looper c =
-    subst (λ (p : Pass). HearsPasses p.view.heard c.args.looper.now c.hear_passes.new.self) (sym c.hear_passes.ensures.other)
-    (looper_tells_hears c.threads_hear_passes.new.other.view.heard c.args.looper.now c.tell_passes.new.self c.hear_passes.new.self c.tell_passes.ensures.kept c.hear_passes.ensures.kept)
-
-pub returns-clause-pass : goal.returns-clause-pass
-returns-clause-pass c =
-    let heard = pass_heard_then c.args.pass.now c.threads_tell_passes.new.other c.tell_passes.new.other c.threads_tell_passes.ensures.heard c.tell_passes.ensures.heard in
-    subst (λ (p : Pass). PassHasHeard c.args.pass.now p × HasHeardWho p) (sym (c.hear_passes.ensures.other ∙ c.threads_hear_passes.ensures.other)) (heard, c.tell_passes.ensures.knows)
+    let told = c.tell_passes.new.other in
+    let hears = HearsPass c.args.place told.view.heard in
+    let same = c.hear_passes.ensures.other ∙ c.threads_hear_passes.ensures.other in
+    record {
+      threads = subst (λ (p : Pass). AtEach (HearsPass c.args.place p.view.heard) c.args.threads.now c.threads_hear_passes.new.threads) (sym same)
+          (each_then TellsPass hears hears c.args.threads.now one c.threads_hear_passes.new.threads (tells_hears c.args.place told.view.heard) c.threads_tell_passes.ensures.kept c.threads_hear_passes.ensures.kept);
+      looper = subst (λ (p : Pass). HearsPasses p.view.heard c.args.looper.now c.hear_passes.new.self) (sym c.hear_passes.ensures.other)
+          (looper_tells_hears c.threads_hear_passes.new.other.view.heard c.args.looper.now c.tell_passes.new.self c.hear_passes.new.self c.tell_passes.ensures.kept c.hear_passes.ensures.kept);
+      pass = subst (PassHasHeard c.args.pass.now) (sym same)
+          (pass_heard_then c.args.pass.now c.threads_tell_passes.new.other told c.threads_tell_passes.ensures.heard c.tell_passes.ensures.heard);
+      who = subst HasHeardWho (sym same) c.tell_passes.ensures.knows;
+    }

@@ -10,10 +10,10 @@ pub hear_pass-requires-clause-ready : goal.hear_pass-requires-clause-ready
 hear_pass-requires-clause-ready c =
     let at = c.loop-k in
     let lt : at.k < length at.threads = omega (arith, c.loop-k-test.true) in
-    next_of c.args.threads.now at.threads at.k (HearsPass c.args.place c.args.other.now.view.heard) (ArePassesReady c.args.place c.args.choreographer.now) c.requires.ready at.invariant.0 c.index-threads-k.result lt
+    next_of c.args.threads.now at.threads at.k (HearsPass c.args.place c.args.other.now.view.heard) (ArePassesReady c.args.place c.args.choreographer.now) c.requires.at.ready at.invariant.0 c.index-threads-k.result lt
 
 pub hear_pass-requires-clause-other : goal.hear_pass-requires-clause-other
-hear_pass-requires-clause-other c = subst (λ (p : Pass). IsFrameOf p c.args.choreographer.now) (sym c.loop-k.invariant.1) c.requires.other
+hear_pass-requires-clause-other c = subst (λ (p : Pass). IsFrameOf p c.args.choreographer.now) (sym c.loop-k.invariant.1) c.requires.at.pass
 
 pub hear_pass-requires-clause-known : goal.hear_pass-requires-clause-known
 hear_pass-requires-clause-known c =

@@ -12,8 +12,10 @@ loop-k-preserved c =
     let lt : at.k < length at.threads = omega (arith, c.loop-k-test.true) in
     told_next (λ (t : PostingThread). t.kit.posters.items) (ThreadKeeps AreKept) c.args.place c.args.threads.now at.threads at.k c.index-threads-k.result c.tell.new.self c.args.other.now at.other c.tell.new.other at.invariant lt c.tell.ensures.heard c.tell.ensures.kept c.tell.ensures.told
 
-pub returns-clause-told : goal.returns-clause-told
-returns-clause-told c =
+pub returns : goal.returns
+returns c =
     let at = c.loop-k in
-    let all : length c.args.threads.now ≤ at.k = omega (arith, c.loop-k-test.false) in
-    all_told (λ (t : PostingThread). t.kit.posters.items) (ThreadKeeps AreKept) c.args.place c.args.threads.now at.threads at.k at.other.view.seen all at.invariant.0
+    let long = at.invariant.0.long in
+    let all : length c.args.threads.now ≤ at.k = omega (arith, c.loop-k-test.false, long) in
+    let told = all_told (λ (t : PostingThread). t.kit.posters.items) (ThreadKeeps AreKept) c.args.place c.args.threads.now at.threads at.k at.other.view.seen all at.invariant.0 in
+    record { kept = told.0; heard = at.invariant.1; told = told.1 }

@@ -17,8 +17,12 @@ loop-place-init g c = record {
   stuck = λ wrong. absurd cc;
 }
 
-pub advance_one-requires-clause-at : goal.advance_one-requires-clause-at
-advance_one-requires-clause-at g c = record { is_hall = c.requires.at.is_hall; controller = c.loop-place.invariant.controller; known = omega (arith, c.loop-place-test.true) }
+pub advance_one-requires : goal.advance_one-requires
+advance_one-requires g c = record {
+  at = record { is_hall = c.requires.at.is_hall; controller = c.loop-place.invariant.controller; known = omega (arith, c.loop-place-test.true) };
+  within = c.requires.within;
+  moving = c.loop-place.invariant.pace.moving;
+}
 
 pub loop-place-preserved : goal.loop-place-preserved
 loop-place-preserved g c =

@@ -47,7 +47,7 @@ returns-in-Advanced g c =
     record {
       alone = turned_alone at pass is_p t;
       pace = record {
-        moving = turned_by at is_p is_q t pass now c.args.script.now.end c.requires.end is c.requires.moving;
+        moving = turned_by at is_p is_q t pass now c.args.script.now.end c.requires.within is c.requires.moving;
         reached = turned_kept at is_p is_q t pass now now is;
         by = λ time le. turned_by at is_p is_q t pass now time le is;
       };

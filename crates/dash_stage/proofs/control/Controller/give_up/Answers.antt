@@ -32,7 +32,13 @@ loop-looper-preserved g c =
       rest = rest_less c.args.now at.looper first at.self after at.invariant.rest c.quit_now-done.ensures.alone.elsewhere;
     }
 
-pub returns-clause-quit : goal.returns-clause-quit
-returns-clause-quit g c done q d some below =
+pub returns : goal.returns
+returns g c =
+    let at = c.loop-looper.invariant in
     let count = poster_count c.args.script.now c.args.hall.now c.args.self.now c.requires.at.is_hall c.requires.at.controller in
-    c.loop-looper.invariant.quit done q d some (omega (arith, count, below, c.loop-looper-test.false))
+    record {
+      controller = at.controller;
+      nudged = at.nudged;
+      bells = at.bells;
+      quit = λ done q d some below. at.quit done q d some (omega (arith, count, below, c.loop-looper-test.false));
+    }

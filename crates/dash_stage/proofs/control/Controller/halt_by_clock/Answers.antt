@@ -17,10 +17,12 @@ returns-in-Halted g c =
     let is = c.in-Halted.ensures.3.1 in
     let pass = c.args.self.now.kit.pass in
     record {
-      controller = after_turn at is_p t;
-      turns = each_turns at pass is_p (turns_one t (Halt _) Halted (ap (λ (z : State). z.entries) is) refl);
-      going = λ wrong. absurd cc;
-      closed = λ _. record { closed = halts_closing at is_p t pass c.args.now is c.requires.late c.requires.closing; halted = ends_with at pass is_p t _ is };
+      tries = record {
+        controller = after_turn at is_p t;
+        turns = each_turns at pass is_p (turns_one t (Halt _) Halted (ap (λ (z : State). z.entries) is) refl);
+        going = λ wrong. absurd cc;
+        closed = λ _. record { closed = halts_closing at is_p t pass c.args.now is c.requires.late c.requires.closing; halted = ends_with at pass is_p t _ is };
+      };
       clocked = λ m moment. halts_clocked at is_p t pass c.args.now is m moment;
     }
 
@@ -36,9 +38,11 @@ returns-in-NotDrained g c =
     let same = c.in-NotDrained.ensures.3.2 in
     let pass = c.args.self.now.kit.pass in
     record {
-      controller = after_turn at is_p t;
-      turns = each_turns at pass is_p (turns_none t same);
-      going = λ _. closing_by_kept c.args.script.now c.args.self.now _ (turned_none at is_p c.index.ensures t pass same) c.requires.closing;
-      closed = λ wrong. absurd cc;
+      tries = record {
+        controller = after_turn at is_p t;
+        turns = each_turns at pass is_p (turns_none t same);
+        going = λ _. closing_by_kept c.args.script.now c.args.self.now _ (turned_none at is_p c.index.ensures t pass same) c.requires.closing;
+        closed = λ wrong. absurd cc;
+      };
       clocked = λ m moment. still_clocked at is_p t pass same m;
     }

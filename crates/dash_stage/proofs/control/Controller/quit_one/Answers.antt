@@ -11,12 +11,9 @@ index-requires g c = in_queues c.requires.at
 pub index_mut-requires : goal.index_mut-requires
 index_mut-requires g c = in_posters c.requires.at
 
-pub quit_by-requires-clause-poster : goal.quit_by-requires-clause-poster
-quit_by-requires-clause-poster g c =
-    (own_poster c.requires.at c.index_mut.ensures.value c.index.ensures).0
-
-pub quit_by-requires-clause-home : goal.quit_by-requires-clause-home
-quit_by-requires-clause-home g c = in_pool c.requires.at c.index.ensures
+pub quit_by-requires : goal.quit_by-requires
+quit_by-requires g c = let at = c.requires.at in
+    record { poster = (own_poster at c.index_mut.ensures.value c.index.ensures).0; of_pool = at.controller.pass; home = in_pool at c.index.ensures }
 
 pub returns : goal.returns
 returns g c =

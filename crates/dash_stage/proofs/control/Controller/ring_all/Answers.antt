@@ -10,7 +10,7 @@ loop-looper-init g c = record {
 }
 
 pub ring-requires : goal.ring-requires
-ring-requires g c = record { at = record { is_hall = c.requires.hall; controller = c.loop-looper.invariant.controller; known = omega (arith, c.loop-looper-test.true) } }
+ring-requires g c = record { at = record { is_hall = c.requires.is_hall; controller = c.loop-looper.invariant.controller; known = omega (arith, c.loop-looper-test.true) } }
 
 pub loop-looper-preserved : goal.loop-looper-preserved
 loop-looper-preserved g c =

@@ -19,10 +19,10 @@ loop-place-init g c = record {
 }
 
 pub seal_one-requires : goal.seal_one-requires
-seal_one-requires g c = record { at = record { is_hall = c.requires.hall; controller = c.loop-place.invariant.controller; known = omega (arith, c.loop-place-test.true) } }
+seal_one-requires g c = record { at = record { is_hall = c.requires.is_hall; controller = c.loop-place.invariant.controller; known = omega (arith, c.loop-place-test.true) } }
 
 pub seal_frames-requires : goal.seal_frames-requires
-seal_frames-requires g c = record { at = record { is_hall = c.requires.hall; controller = c.seal_one.ensures.alone.controller; known = omega (arith, c.loop-place-test.true) } }
+seal_frames-requires g c = record { at = record { is_hall = c.requires.is_hall; controller = c.seal_one.ensures.alone.controller; known = omega (arith, c.loop-place-test.true) } }
 
 pub loop-place-preserved : goal.loop-place-preserved
 loop-place-preserved g c =
@@ -35,7 +35,7 @@ loop-place-preserved g c =
     } in
     let here = subst (λ (v : Vec Sender). (d : Sender) → TurnsOn IsNone (slice_index_or at.self.kit.posters.items at.place d) (slice_index_or v.items at.place d)) (sym posters) c.seal_one.ensures.here in
     let elsewhere = subst (λ (v : Vec Sender). (q : ℕ) (d : Sender) → q ≢ at.place → slice_index_or v.items q d ≡ slice_index_or at.self.kit.posters.items q d) (sym posters) c.seal_one.ensures.alone.elsewhere in
-    let long = poster_count c.args.script.now c.args.hall.now after c.requires.hall c.seal_frames.ensures.controller ∙ sym (poster_count c.args.script.now c.args.hall.now at.self c.requires.hall at.invariant.controller) in
+    let long = poster_count c.args.script.now c.args.hall.now after c.requires.is_hall c.seal_frames.ensures.controller ∙ sym (poster_count c.args.script.now c.args.hall.now at.self c.requires.is_hall at.invariant.controller) in
     let more = turns_more IsNone c.args.self.now at.self after at.place at.invariant.turns at.invariant.rest long here elsewhere in
     record {
       controller = c.seal_frames.ensures.controller;

@@ -14,17 +14,12 @@ index_mut-requires g c = in_passes c.requires.at
 pub index_mut-requires-2 : goal.index_mut-requires-2
 index_mut-requires-2 g c = in_frame_lists c.requires.at
 
-pub hand_out_frames-requires-clause-pass : goal.hand_out_frames-requires-clause-pass
-hand_out_frames-requires-clause-pass g c =
-    own_pass c.requires.at c.index_mut.ensures.value c.index.ensures
-
-pub hand_out_frames-requires-clause-last : goal.hand_out_frames-requires-clause-last
-hand_out_frames-requires-clause-last g c =
-    last_pass c.requires.at c.index_mut.ensures.value c.index.ensures
-
-pub hand_out_frames-requires-clause-seals : goal.hand_out_frames-requires-clause-seals
-hand_out_frames-requires-clause-seals g c =
-    ap (λ (k : Constants). k.seals) (ap (λ f. f.constants) c.index.ensures ∙ choreographer_at c.args.script.now c.args.hall.now.choreographers.items c.requires.at.is_hall.choreographers c.args.place c.index.result.now c.requires.at.known)
+pub hand_out_frames-requires : goal.hand_out_frames-requires
+hand_out_frames-requires g c = record {
+  pass = own_pass c.requires.at c.index_mut.ensures.value c.index.ensures;
+  last = last_pass c.requires.at c.index_mut.ensures.value c.index.ensures;
+  seals = ap (λ (k : Constants). k.seals) (ap (λ f. f.constants) c.index.ensures ∙ choreographer_at c.args.script.now c.args.hall.now.choreographers.items c.requires.at.is_hall.choreographers c.args.place c.index.result.now c.requires.at.known);
+}
 
 pub returns : goal.returns
 returns g c = record { controller = frames_controller c.requires.at c.hand_out_frames.new.parts c.index_mut.ensures.value c.index_mut-2.ensures.value c.hand_out_frames.ensures; posters = refl }

@@ -11,13 +11,9 @@ index_mut-requires g c = in_posters c.requires.at
 pub index_mut-requires-2 : goal.index_mut-requires-2
 index_mut-requires-2 g c = in_lists c.requires.at
 
-pub hand_out-requires-clause-poster : goal.hand_out-requires-clause-poster
-hand_out-requires-clause-poster g c =
-    (own_poster c.requires.at c.index_mut.ensures.value c.index.ensures).0
-
-pub hand_out-requires-clause-last : goal.hand_out-requires-clause-last
-hand_out-requires-clause-last g c =
-    is_last c.requires.at c.index_mut.ensures.value c.index.ensures
+pub hand_out-requires : goal.hand_out-requires
+hand_out-requires g c = let at = c.requires.at in
+    record { poster = (own_poster at c.index_mut.ensures.value c.index.ensures).0; last = is_last at c.index_mut.ensures.value c.index.ensures }
 
 pub returns : goal.returns
 returns g c =

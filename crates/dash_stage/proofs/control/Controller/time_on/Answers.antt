@@ -21,8 +21,6 @@ returns g c =
     let t = c.time.ensures.1 in
     let pass = c.args.self.now.kit.pass in
     record {
-      alone = turned_alone at pass is_p t;
-      none = turned_none at is_p c.index.ensures t pass refl;
+      idle = record { alone = turned_alone at pass is_p t; none = turned_none at is_p c.index.ensures t pass refl; here = turns_here at pass is_p (turns_none t refl) };
       time = λ d. c.time.ensures.2 ∙ turned_time at is_p c.index.ensures t pass refl d;
-      here = turns_here at pass is_p (turns_none t refl);
     }

@@ -9,8 +9,8 @@ use Rattle.dash_stage.proofs.Sharing.StageShares.{calls_none}
 use Rattle.dash_stage.proofs.Stepping.{advanced_by, advanced_at, advanced_begins}
 use Rattle.dash_stage.proofs.stage.Stage.advance.Goals as goal
 
-pub advance-requires-clause-at : goal.advance-requires-clause-at
-advance-requires-clause-at g c = (let way = c.requires.way in record { is_hall = way.stage.hall; controller = way.stage.controller; known = way.some })
+pub advance-requires : goal.advance-requires
+advance-requires g c = (let way = c.requires.way in record { at = record { is_hall = way.stage.hall; controller = way.stage.controller; known = way.some }; within = c.requires.end; moving = way.moving })
 
 pub returns-in_err-moved-clause-way : goal.returns-in_err-moved-clause-way
 returns-in_err-moved-clause-way g c =
@@ -18,7 +18,7 @@ returns-in_err-moved-clause-way g c =
     let m = c.max-self.ensures in
     record {
       some = way.some;
-      stage = record { hall = way.stage.hall; threads = way.stage.threads; loopers = way.stage.loopers; controller = c.advance.ensures.controller; pass = way.stage.pass };
+      stage = record { text = way.stage.text; hall = way.stage.hall; threads = way.stage.threads; loopers = way.stage.loopers; controller = c.advance.ensures.controller; pass = way.stage.pass };
       moving = c.advance.ensures.pace.moving;
       by = c.advance.ensures.pace.by c.max-self.result (omega (arith, m)) (by_later c.args.self.now.time c.max-self.result c.args.self.now.controller (omega (arith, m)) way.by);
     }
@@ -40,9 +40,9 @@ returns g c =
     let advanced = λ (past : List Block) (ready : IsReadyFor s past time st). advanced_by s past time st _ st' _ shared ready refl refl went.turns now by went.come went.stuck in
     record {
       way = record { some = way.some; stage = shared.stage; moving = moving_kept s left st'.controller none c.advance.ensures.pace.moving; by = by_kept left st'.controller none st'.time by };
-      time = now;
-      reached = λ moved. reached_kept s left st'.controller none time (went.reached moved);
       on = record {
+        now = now;
+        reached = λ moved. reached_kept s left st'.controller none time (went.reached moved);
         at = λ past ready. advanced_at (advanced past ready) shared.heard past way.some c.requires.end ready.may ready.rests.at;
         drained = λ past ready sound. (advanced_sound (advanced past ready) sound).0;
         block = λ past ready. advanced_begins (advanced past ready) shared.heard past;

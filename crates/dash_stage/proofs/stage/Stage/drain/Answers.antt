@@ -26,9 +26,9 @@ returns g c =
     let ended = subst (λ (xs : List StageLooper). OthersHaveEnded xs → OthersHaveEnded ls) c.as_mut_slice.ensures.value c.drain_first.ensures.others was.ran.ended in
     let wrote = with_items_is st.loopers ls (omega (arith, looped.long, st.loopers.ok.0)) in
     let on : LoopersGoOn ls = subst LoopersGoOn (c.as_slice.ensures.value ∙ wrote) (c.some_gave_up.ensures c.if-some_gave_up.false) in
-    let played : HaveComeBy s ls = loopers_played m s hall st.loopers.items ls c.requires.text was.stage.loopers looped on was.ran.played in
+    let played : HaveComeBy s ls = loopers_played m s hall st.loopers.items ls was.stage.text was.stage.loopers looped on was.ran.played in
     record {
-      closing = closing_heard m s _ c.share_by_clock.new.self c.share_by_clock.ensures.stage c.share_by_clock.ensures.shared c.share_by_clock.ensures.kept was.some
+      closing = closing_heard m s _ c.share_by_clock.new.self c.share_by_clock.ensures.stage c.share_by_clock.ensures.shares.shared c.share_by_clock.ensures.shares.kept was.some
           was.stage.hall (subst (AreLoopers s hall) (sym wrote) (loopers_ran m s hall st.loopers.items ls was.stage.loopers looped))
           (record {
             clocked = record {

@@ -12,7 +12,7 @@ use Rattle.dash_stage.proofs.Stepping.{turned_at}
 use Rattle.dash_stage.proofs.stage.Stage.end.Goals as goal
 
 pub loop-init : goal.loop-init
-loop-init g c = record { stage = c.quit_others.ensures.stage; closing = c.in_ok-quit_others.ensures.closing; at = c.in_ok-quit_others.ensures.at }
+loop-init g c = record { stage = c.quit_others.ensures.stage; closing = c.in_ok-quit_others.ensures.closes.closing; at = c.in_ok-quit_others.ensures.closes.at }
 
 pub loop-preserved : goal.loop-preserved
 loop-preserved g c =
@@ -21,7 +21,7 @@ loop-preserved g c =
     record {
       stage = still.stage;
       closing = closing_kept c.args.script.now c.loop.self.controller c.run_round.new.self.controller still.none at.closing;
-      at = λ past rests. (c.in_ok-run_round.ensures.at past (at.at past rests)).at;
+      at = λ past rests. (c.in_ok-run_round.ensures.round.at past (at.at past rests)).at;
     }
 
 pub halt-halted-requires-clause-at : goal.halt-halted-requires-clause-at
@@ -41,12 +41,12 @@ returns-then-halted g c =
     let halt = c.halt-halted.ensures in
     let shared = c.share.ensures.shared in
     let kept = shared.kept in
-    let turns = c.in_ok-run_rounds.ensures.turns in
+    let turns = c.in_ok-run_rounds.ensures.rounds.turns in
     let many : length ran.loopers.items ≡ length c.loop-2.self.loopers.items = is.loopers.0 ∙ sym at.closes.stage.loopers.0 in
     record {
       stage = shared.stage;
       ends = λ past rests.
-          let before = (c.in_ok-run_rounds.ensures.at past (at.closes.at past rests)).at in
+          let before = (c.in_ok-run_rounds.ensures.rounds.at past (at.closes.at past rests)).at in
           let over = turned_by Halts s ran _ st' shared is before.timely.same refl refl halt.turns in
           record {
             stage = shared.stage;
@@ -68,14 +68,14 @@ loop-2-preserved g c =
     let halt = c.halt-halted.ensures in
     let shared = c.share.ensures.shared in
     let kept = shared.kept in
-    let turns = c.in_ok-run_rounds.ensures.turns in
+    let turns = c.in_ok-run_rounds.ensures.rounds.turns in
     let many : length ran.loopers.items ≡ length c.loop-2.self.loopers.items = is.loopers.0 ∙ sym at.closes.stage.loopers.0 in
     record {
       closes = record {
         stage = shared.stage;
         closing = closing_kept s c.halt-halted.new.self st'.controller (calls_none c.halt-halted.new.self st'.controller kept.controller) (halt.going c.if-halted.false);
         at = λ past rests.
-            let before = (c.in_ok-run_rounds.ensures.at past (at.closes.at past rests)).at in
+            let before = (c.in_ok-run_rounds.ensures.rounds.at past (at.closes.at past rests)).at in
             let over = turned_by Halts s ran _ st' shared is before.timely.same refl refl halt.turns in
             (turned_at over (λ e halts. halt_moves_not e.call halts) shared.heard kept.time (λ q d lt. inr (λ e sound halts. halt_in_time (whole_on ran.controller q d) e.call e.reply halts)) past before).at;
       };

@@ -1,58 +1,47 @@
-use Rattle.std.proofs.Common.{◌≡◌, ◌<◌, ℕ, true, false, List, length, sym, subst, arith, Bool}
-use Rattle.std.specs.Prelude.{slice_index_or}
+use Rattle.std.proofs.Common.{List, sym, subst, arith, Bool}
 use Rattle.std.proofs.lemmas.List.{with_items_is}
 use Rattle.dash_loopers.specs.declared.looper.StageLooper.{StageLooper}
-use Rattle.dash_loopers.specs.Loopers.{HasRun}
+use Rattle.dash_stage.specs.Controllers.{IsControllerIn}
+use Rattle.dash_stage.specs.Turns.{HaveRunRound}
 use Rattle.dash_stage.specs.declared.side.Turn.TheVariants.{Others}
-use Rattle.dash_stage.specs.Turns.{has_turn, IsTheSame}
+use Rattle.dash_stage.proofs.BlockTimes.Limits.{playable}
 use Rattle.dash_stage.proofs.Sharing.Turns.{others_have_turn}
 use Rattle.dash_stage.proofs.stage.Stage.give_up.Goals as goal
-use Rattle.dash_stage.specs.Controllers.{IsControllerIn}
-use Rattle.dash_stage.specs.Stages.{AreLoopers}
-
-pub returns-clause-run : goal.returns-clause-run
-returns-clause-run g c k d some lt =
-    let s = c.args.script.now in
-    let me = c.args.self.now in
-    let ran = c.run_loopers.new.loopers in
-    let rounds =
-    subst (λ (xs : List StageLooper). (k : ℕ) (d : StageLooper) → k < length xs → has_turn Others k ≡ true → HasRun s me.time (slice_index_or xs k d) (slice_index_or ran k d)) c.as_mut_slice.ensures.value c.run_loopers.ensures.round.rounds in
-    let long = c.run_loopers.ensures.round.loopers.0 in
-    let many = c.requires.stage.loopers.0 in
-    subst (λ (xs : List StageLooper). HasRun s me.time (slice_index_or me.loopers.items k d) (slice_index_or xs k d)) (sym (with_items_is me.loopers ran (omega (arith, long, many, me.loopers.ok.0))))
-    (rounds k d lt (others_have_turn k some))
 
 pub give_up-quit-requires : goal.give_up-quit-requires
-give_up-quit-requires g c = record {
-  at = record {
-    is_hall = c.requires.stage.hall;
-    known = c.requires.some;
-    controller = subst (λ (b : Bool). IsControllerIn b c.args.script.now c.args.self.now.hall c.args.self.now.controller) (sym c.requires.stage.controller.mode) c.requires.stage.controller;
-  };
-}
-
-pub returns-clause-stage : goal.returns-clause-stage
-returns-clause-stage g c =
-    let s = c.args.script.now in
-    let me = c.args.self.now in
-    let ran = c.run_loopers.new.loopers in
-    let long = c.run_loopers.ensures.round.loopers.0 in
-    let many = c.requires.stage.loopers.0 in
+give_up-quit-requires g c =
+    let is = c.requires.stage in
     record {
-      hall = c.requires.stage.hall;
-      threads = c.requires.stage.threads;
-      loopers = subst (AreLoopers s me.hall) (sym (with_items_is me.loopers ran (omega (arith, long, many, me.loopers.ok.0)))) c.run_loopers.ensures.round.loopers;
-      controller = subst (λ (b : Bool). IsControllerIn b s me.hall c.give_up-quit.new.self) c.requires.stage.controller.mode c.give_up-quit.ensures.controller;
-      pass = c.requires.stage.pass;
+      at = record {
+        is_hall = is.hall;
+        known = (playable c.args.script.now is.text).loopers;
+        controller = subst (λ (b : Bool). IsControllerIn b c.args.script.now c.args.self.now.hall c.args.self.now.controller) (sym is.controller.mode) is.controller;
+      };
     }
 
-pub returns-clause-main : goal.returns-clause-main
-returns-clause-main g c k d lt waits =
+pub returns : goal.returns
+returns g c =
+    let s = c.args.script.now in
     let me = c.args.self.now in
+    let is = c.requires.stage in
+    let gave = c.give_up-quit.ensures in
     let ran = c.run_loopers.new.loopers in
-    let others =
-    subst (λ (xs : List StageLooper). (k : ℕ) (d : StageLooper) → k < length xs → has_turn Others k ≡ false → IsTheSame (slice_index_or xs k d) (slice_index_or ran k d)) c.as_mut_slice.ensures.value c.run_loopers.ensures.round.others in
     let long = c.run_loopers.ensures.round.loopers.0 in
-    let many = c.requires.stage.loopers.0 in
-    subst (λ (xs : List StageLooper). IsTheSame (slice_index_or me.loopers.items k d) (slice_index_or xs k d)) (sym (with_items_is me.loopers ran (omega (arith, long, many, me.loopers.ok.0))))
-    (others k d lt waits)
+    let many = is.loopers.0 in
+    let wrote = sym (with_items_is me.loopers ran (omega (arith, long, many, me.loopers.ok.0))) in
+    let round = subst (λ (xs : List StageLooper). HaveRunRound Others s me.hall me.time me.loopers.items xs) wrote
+    (subst (λ (xs : List StageLooper). HaveRunRound Others s me.hall me.time xs ran) c.as_mut_slice.ensures.value c.run_loopers.ensures.round) in
+    record {
+      stage = record {
+        text = is.text;
+        hall = is.hall;
+        threads = is.threads;
+        loopers = round.loopers;
+        controller = subst (λ (b : Bool). IsControllerIn b s me.hall c.give_up-quit.new.self) is.controller.mode gave.controller;
+        pass = is.pass;
+      };
+      nudged = gave.nudged;
+      quit = gave.quit;
+      run = λ k d some lt. round.rounds k d lt (others_have_turn k some);
+      main = round.others;
+    }

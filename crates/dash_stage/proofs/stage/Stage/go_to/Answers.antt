@@ -26,7 +26,7 @@ loop-preserved g c =
     let on = c.in_ok-moved.ensures.on in
     let settles = c.in_ok-settle.ensures.settles in
     let ready = λ (past : List Block) (rests : RestsAt s past st). ready_by s past next time c.next_due.result st c.next_due.new.self at.way.stage due.looked c.requires.goal.planned c.at_most-next.ensures.one c.at_most-next.ensures.early due.due due.reason rests in
-    let now : after.time ≡ max st.time next = c.settle.ensures.still.now ∙ (c.advance.ensures.time ∙ ap (λ (t : ℕ). max t next) due.looked.still.now) in
+    let now : after.time ≡ max st.time next = c.settle.ensures.still.now ∙ (on.now ∙ ap (λ (t : ℕ). max t next) due.looked.still.now) in
     record {
       way = way_still s gone after c.settle.ensures.still c.advance.ensures.way;
       within = (let was = at.within in omega (arith, was, within, now));
@@ -60,11 +60,11 @@ returns-then-next-time g c =
     let ready = λ (past : List Block) (rests : RestsAt s past st). ready_by s past next time c.next_due.result st c.next_due.new.self at.way.stage due.looked c.requires.goal.planned c.at_most-next.ensures.one c.at_most-next.ensures.early due.due due.reason rests in
     record {
       way = c.advance.ensures.way;
-      gone = record {
-        now = (let now = c.advance.ensures.time in let looked = due.looked.still.now in let was = at.within in omega (arith, now, looked, was, same));
-        reached = subst (λ (t : ℕ). HasReached t gone.controller) same (c.in_ok-moved.ensures.reached c.if-moved.true);
-      };
       goes = record {
+        gone = record {
+          now = (let now = on.now in let looked = due.looked.still.now in let was = at.within in omega (arith, now, looked, was, same));
+          reached = subst (λ (t : ℕ). HasReached t gone.controller) same (on.reached c.if-moved.true);
+        };
         at = λ past rests. (on.at past (ready past (at.rests past rests))).at;
         block = λ past rests before. subst (λ (t : ℕ). BeginsBlock s past t gone) same
             (on.block past (ready past (at.rests past rests)) (subst (λ (t : ℕ). ComesBefore s past t st) (sym same) (at.before past rests before)));

@@ -20,14 +20,15 @@ returns g c =
     let was = c.requires.closing in
     let ran = was.ran in
     let halted = c.halt_by_clock-halted.new.self in
-    let halt = c.halt_by_clock-halted.ensures in
+    let tried = c.halt_by_clock-halted.ensures in
+    let halt = tried.tries in
     let share = c.share_by_clock.ensures in
     let mid : Stage = record { hall = st.hall; threads = st.threads; loopers = st.loopers; controller = halted; pass = st.pass; time = st.time } in
     let now : HasRunByClock m s mid = record {
       clocked = record {
         threads = ran.clocked.threads;
         loopers = ran.clocked.loopers;
-        controller = halt.clocked m (of_shown (g.C.Clock.shows c.args.timer.now.clock.now) c.args.timer.now.start c.in-Ok.now c.in-Ok.ensures.moment) ran.clocked.controller;
+        controller = tried.clocked m (of_shown (g.C.Clock.shows c.args.timer.now.clock.now) c.args.timer.now.start c.in-Ok.now c.in-Ok.ensures.moment) ran.clocked.controller;
       };
       run = ran.run;
       ended = ran.ended;
@@ -37,6 +38,6 @@ returns g c =
       behind = behind_on s st.threads.items st.threads.items st.controller halted (same_threads st.threads.items) (sees_turned Halts st.controller halted halt.turns) ran.behind;
     } in
     record {
-      closing = λ going. closing_heard m s mid c.share_by_clock.new.self share.stage share.shared share.kept was.some was.stage.hall was.stage.loopers now (halt.going going);
-      out = λ done. ended_heard m s mid c.share_by_clock.new.self share.stage share.shared share.kept st was.stage was.same refl refl refl was.stage.hall was.stage.loopers now halt.turns (halt.closed done);
+      closing = λ going. closing_heard m s mid c.share_by_clock.new.self share.stage share.shares.shared share.shares.kept was.some was.stage.hall was.stage.loopers now (halt.going going);
+      out = λ done. ended_heard m s mid c.share_by_clock.new.self share.stage share.shares.shared share.shares.kept st was.stage was.same refl refl refl was.stage.hall was.stage.loopers now halt.turns (halt.closed done);
     }

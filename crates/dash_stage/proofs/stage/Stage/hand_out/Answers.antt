@@ -10,8 +10,10 @@ returns g c =
     let st = c.args.self.now in
     let shared = c.share.ensures.shared in
     record {
-      still = still_shared s st _ c.share.new.self shared c.seal.ensures.none refl;
-      at = λ past at. turned_at (turned_by IsNone s st _ c.share.new.self shared c.requires.stage at.timely.same refl refl c.in_ok-seal.ensures.turns) (λ e none. absurd none) shared.heard shared.kept.time
-          (λ q d lt. inr (λ e sound none. absurd none)) past at;
-      same = shared.same;
+      still = still_shared s st _ c.share.new.self shared c.seal.ensures.idle.none refl;
+      shares = record {
+        at = λ past at. turned_at (turned_by IsNone s st _ c.share.new.self shared c.requires.stage at.timely.same refl refl c.in_ok-seal.ensures.turns) (λ e none. absurd none) shared.heard shared.kept.time
+            (λ q d lt. inr (λ e sound none. absurd none)) past at;
+        same = shared.same;
+      };
     }

@@ -38,7 +38,7 @@ go_to-requires-clause-goal g c κs within =
     let is = subst (λ (l : List Block). b ≡ slice_index_or l i b) whole c.block-item.is in
     record {
       later = subst (λ (z : Block). c.loop-block.self.time ≤ z.time) (sym is) (c.loop-block.invariant.later b lt);
-      within = before_end s i b c.requires.text lt is;
+      within = before_end s i b c.requires.begun.way.stage.text lt is;
       planned = block_is_planned s i b lt is;
     }
 
@@ -61,15 +61,15 @@ loop-block-preserved g c =
     let next : IsAtNext s (take i bs) (drop (i + 1) bs) b gone = record {
       next = blocks_next bs i b lt is;
       moving = c.go_to.ensures.way.moving;
-      now = c.in_ok-go_to.ensures.gone.now;
+      now = c.in_ok-go_to.ensures.goes.gone.now;
       at = goes.at (take i bs) at.rests;
       begins = goes.block (take i bs) at.rests (subst (λ (z : Block). ComesBefore s (take i bs) z.time c.loop-block.self) (sym is) (at.before b lt));
     } in
     let ran = subst (λ (l : List Block). StageAt s l c.run_block.new.self) (blocks_past bs i b lt is) (c.in_ok-run_block.ensures.next (take i bs) (drop (i + 1) bs) next) in
     let settled = (c.in_ok-settle.ensures.settles.at (take (i + 1) bs) ran).at in
     let still = still_then s gone c.run_block.new.self after c.run_block.ensures.still c.settle.ensures.still in
-    let time : after.time ≡ b.time = still.now ∙ c.in_ok-go_to.ensures.gone.now in
-    let less : (d : Block) → i + 1 < length bs → after.time < (slice_index_or bs (i + 1) d).time = λ d some. subst (λ (t : ℕ). t < (slice_index_or bs (i + 1) d).time) (sym time) (before_next s i b d c.requires.text is some) in
+    let time : after.time ≡ b.time = still.now ∙ c.in_ok-go_to.ensures.goes.gone.now in
+    let less : (d : Block) → i + 1 < length bs → after.time < (slice_index_or bs (i + 1) d).time = λ d some. subst (λ (t : ℕ). t < (slice_index_or bs (i + 1) d).time) (sym time) (before_next s i b d c.requires.begun.way.stage.text is some) in
     record {
       way = way_still s gone after still c.go_to.ensures.way;
       rests = record { at = settled; rested = c.in_ok-settle.ensures.settles.rested ran.timely.same };
@@ -77,12 +77,15 @@ loop-block-preserved g c =
       before = λ d some. record { ahead = λ sound. inl (less d some); turn = rounds_before s (take (i + 1) bs) (slice_index_or bs (i + 1) d).time after (λ sound. less d some) settled.asks };
     }
 
-pub end-requires-clause-way : goal.end-requires-clause-way
-end-requires-clause-way g c κs within = way_still c.args.script.now c.go_to-2.new.self c.settle-2.new.self c.settle-2.ensures.still c.go_to-2.ensures.way
-
-pub end-requires-clause-reached : goal.end-requires-clause-reached
-end-requires-clause-reached g c κs within =
-    reached_kept c.args.script.now c.go_to-2.new.self.controller c.settle-2.new.self.controller c.settle-2.ensures.still.none c.args.script.now.end c.in_ok-go_to-2.ensures.gone.reached
+pub end-requires-after_bounds : goal.end-requires-after_bounds
+end-requires-after_bounds g c κs within =
+    let s = c.args.script.now in
+    let gone : Stage = c.go_to-2.new.self in
+    let still = c.settle-2.ensures.still in
+    record {
+      way = way_still s gone c.settle-2.new.self still c.go_to-2.ensures.way;
+      reached = reached_kept s gone.controller c.settle-2.new.self.controller still.none s.end c.in_ok-go_to-2.ensures.goes.gone.reached;
+    }
 
 pub returns-clause-out : goal.returns-clause-out
 returns-clause-out g c =

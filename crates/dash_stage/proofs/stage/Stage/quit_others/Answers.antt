@@ -32,8 +32,10 @@ loop-looper-init g c =
       ended = λ q d why. refl;
     }
 
-pub quit-requires-clause-at : goal.quit-requires-clause-at
-quit-requires-clause-at g c = (let stage = c.loop-looper.invariant.stage in record { is_hall = stage.hall; controller = stage.controller; known = omega (arith, c.loop-looper-test.true) })
+pub quit-requires : goal.quit-requires
+quit-requires g c =
+    let at = c.loop-looper.invariant in
+    record { at = record { is_hall = at.stage.hall; controller = at.stage.controller; known = omega (arith, c.loop-looper-test.true) }; quitting = at.quitting }
 
 pub loop-looper-preserved : goal.loop-looper-preserved
 loop-looper-preserved g c =
@@ -54,7 +56,7 @@ loop-looper-preserved g c =
           poster_count s st.hall quit stage.hall w.quit.ensures.alone.controller ∙ sym (poster_count s st.hall st.controller stage.hall stage.controller) in
           let more = turns_more MovesNot first.controller st.controller quit n at.turns at.rest long w.in_ok-quit.ensures.quits.here w.quit.ensures.alone.elsewhere in
           subst (HasQuit s (n + 1) first) (sym w.self-is) (record {
-            stage = record { hall = stage.hall; threads = stage.threads; loopers = stage.loopers; controller = w.quit.ensures.alone.controller; pass = stage.pass };
+            stage = record { text = stage.text; hall = stage.hall; threads = stage.threads; loopers = stage.loopers; controller = w.quit.ensures.alone.controller; pass = stage.pass };
             threads = at.threads;
             loopers = at.loopers;
             same_time = at.same_time;
@@ -87,8 +89,10 @@ returns g c =
     let shared = c.share.ensures.shared in
     record {
       stage = shared.stage;
-      closing = closing_kept s left.controller st'.controller (calls_none left.controller st'.controller shared.kept.controller) (quitting_ends s c.loop-looper.looper left.controller at.quitting);
-      at = λ past rests.
-          (turned_at (turned_by MovesNot s st left st' shared is rests.at.timely.same at.threads at.loopers at.turns) (λ e h. h) shared.heard (shared.kept.time ∙ at.same_time)
-          (quit_in_time s st left.controller is at.ended rests.rested) past rests.at).at;
+      closes = record {
+        closing = closing_kept s left.controller st'.controller (calls_none left.controller st'.controller shared.kept.controller) (quitting_ends s c.loop-looper.looper left.controller at.quitting);
+        at = λ past rests.
+            (turned_at (turned_by MovesNot s st left st' shared is rests.at.timely.same at.threads at.loopers at.turns) (λ e h. h) shared.heard (shared.kept.time ∙ at.same_time)
+            (quit_in_time s st left.controller is at.ended rests.rested) past rests.at).at;
+      };
     }

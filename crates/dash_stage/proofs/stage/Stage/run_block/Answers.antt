@@ -18,5 +18,5 @@ returns g c =
     let shared = c.share.ensures.shared in
     record {
       still = still_shared s st _ c.share.new.self shared (still_self s st is).none refl;
-      next = block_next s c.requires.text st c.share.new.self ran _ b is wrote many on shared;
+      next = block_next s is.text st c.share.new.self ran _ b is wrote many on shared;
     }

@@ -23,7 +23,7 @@ run_side_by_side-quit-requires-clause-can g c κs within =
     let begun = c.requires.begun in
     let stage = begun.stage in
     record {
-      text = c.requires.text;
+      text = stage.text;
       some = begun.some;
       hall = (stage.hall, stage.controller.mode);
       threads = subst (AreThreads c.args.script.now c.args.self.now.hall) (sym c.as_mut_slice.ensures.value) stage.threads;
@@ -41,22 +41,22 @@ returns g c =
     let begun = c.requires.begun in
     let ts : List PostingThread = c.run_side_by_side-quit.new.threads in
     let ls : List StageLooper = c.run_side_by_side-quit.new.loopers in
-    let ran = subst (λ (xs : List PostingThread). AtEach (RunsByClock m s hall) xs ts) c.as_mut_slice.ensures.value c.run_side_by_side-quit.ensures.beside.ran in
-    let looped = subst (λ (xs : List StageLooper). AtEach (HasLooped m s hall) xs ls) c.as_mut_slice-2.ensures.value c.run_side_by_side-quit.ensures.beside.loops in
+    let ran = subst (λ (xs : List PostingThread). AtEach (RunsByClock m s hall) xs ts) c.as_mut_slice.ensures.value c.run_side_by_side-quit.ensures.ran.beside.ran in
+    let looped = subst (λ (xs : List StageLooper). AtEach (HasLooped m s hall) xs ls) c.as_mut_slice-2.ensures.value c.run_side_by_side-quit.ensures.ran.beside.loops in
     let wrote = with_items_is st.threads ts (omega (arith, ran.long, st.threads.ok.0)) in
     let wrote' = with_items_is st.loopers ls (omega (arith, looped.long, st.loopers.ok.0)) in
     let quit = c.run_side_by_side-quit.ensures.ends.quit c.if-not-quit.false in
     let going : GoOn ts = subst GoOn (c.as_slice.ensures.value ∙ wrote) (c.has_given_up.ensures c.if-has_given_up.false) in
     let on : LoopersGoOn ls = subst LoopersGoOn (c.as_slice-2.ensures.value ∙ wrote') (c.some_gave_up.ensures c.if-some_gave_up.false) in
     let run = threads_ran_all m s hall st.threads.items ts begun.stage.threads ran going begun.begun in
-    let side = subst (λ (xs : List StageLooper). LoopSideBySide m s xs ls) c.as_mut_slice-2.ensures.value (c.run_side_by_side-quit.ensures.looped c.if-not-quit.false) in
+    let side = subst (λ (xs : List StageLooper). LoopSideBySide m s xs ls) c.as_mut_slice-2.ensures.value (c.run_side_by_side-quit.ensures.ran.looped c.if-not-quit.false) in
     let ended : OthersHaveEnded ls = subst OthersHaveEnded (c.as_slice-4.ensures.value ∙ wrote') (c.all_but_main_have_ended.ensures c.if-not-all_but_main_have_ended.false) in
     let going_on : (d : StageLooper) → is_ended (slice_index_or ls 0 d).last ≡ false =
     λ d. subst (λ (xs : List StageLooper). is_ended (slice_index_or xs 0 d).last ≡ false) (c.as_slice-3.ensures.value ∙ wrote') (c.main_has_ended.ensures d ∙ c.if-main_has_ended.false) in
     let first : HaveLooped m s ls = looped_first m s st.loopers.items ls begun.loopers looped.long side ended on going_on in
-    let played : HaveComeBy s ls = loopers_played m s hall st.loopers.items ls c.requires.text begun.stage.loopers looped on (begins_played s st.loopers.items begun.loopers) in
+    let played : HaveComeBy s ls = loopers_played m s hall st.loopers.items ls begun.stage.text begun.stage.loopers looped on (begins_played s st.loopers.items begun.loopers) in
     record {
-      closing = closing_heard m s _ c.share_by_clock.new.self c.share_by_clock.ensures.stage c.share_by_clock.ensures.shared c.share_by_clock.ensures.kept begun.some
+      closing = closing_heard m s _ c.share_by_clock.new.self c.share_by_clock.ensures.stage c.share_by_clock.ensures.shares.shared c.share_by_clock.ensures.shares.kept begun.some
           begun.stage.hall (subst (AreLoopers s hall) (sym wrote') (loopers_ran m s hall st.loopers.items ls begun.stage.loopers looped))
           (record {
             clocked = record {
@@ -78,7 +78,7 @@ main_has_ended-requires g c =
     let m : Mode = in_free_mode (g.C.Clock.shows c.args.timer.now.clock.now) c.args.timer.now.start in
     let st = c.args.self.now in
     let ls : List StageLooper = c.run_side_by_side-quit.new.loopers in
-    let looped = subst (λ (xs : List StageLooper). AtEach (HasLooped m c.args.script.now st.hall) xs ls) c.as_mut_slice-2.ensures.value c.run_side_by_side-quit.ensures.beside.loops in
+    let looped = subst (λ (xs : List StageLooper). AtEach (HasLooped m c.args.script.now st.hall) xs ls) c.as_mut_slice-2.ensures.value c.run_side_by_side-quit.ensures.ran.beside.loops in
     let wrote = with_items_is st.loopers ls (omega (arith, looped.long, st.loopers.ok.0)) in
     let some = c.requires.begun.some in
     let count = c.requires.begun.stage.loopers.0 in

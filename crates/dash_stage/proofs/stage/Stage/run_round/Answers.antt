@@ -20,8 +20,10 @@ returns g c =
     let wrote = with_items_is st.loopers ran (omega (arith, long, many, st.loopers.ok.0)) in
     record {
       still = still_shared s st _ c.share.new.self shared (still_self s st is).none refl;
-      at = round_at s c.requires.text st c.share.new.self ran _ is wrote loopers on shared round.plays;
-      turns = round_turns s c.requires.text st c.share.new.self ran _ is wrote loopers on shared c.args.turn round.others;
-      same = shared.same;
-      rested = round_rests s c.requires.text st c.share.new.self ran _ is wrote loopers on shared c.args.turn round.waits;
+      round = record {
+        at = round_at s is.text st c.share.new.self ran _ is wrote loopers on shared round.plays;
+        turns = round_turns s is.text st c.share.new.self ran _ is wrote loopers on shared c.args.turn round.others;
+        same = shared.same;
+        rested = round_rests s is.text st c.share.new.self ran _ is wrote loopers on shared c.args.turn round.waits;
+      };
     }

@@ -17,7 +17,7 @@ pub loop-preserved : goal.loop-preserved
 loop-preserved g c =
     let s = c.args.script.now in
     let at = c.loop.invariant in
-    let done = c.in_ok-run_round.ensures in
+    let done = c.in_ok-run_round.ensures.round in
     record {
       still = still_then s c.args.self.now c.loop.self c.run_round.new.self at.still c.run_round.ensures.still;
       at = stays_then s c.args.self.now c.loop.self c.run_round.new.self at.at done.at;
@@ -32,12 +32,14 @@ pub returns-then-entries_seen-before : goal.returns-then-entries_seen-before
 returns-then-entries_seen-before g c =
     let s = c.args.script.now in
     let at = c.loop.invariant in
-    let done = c.in_ok-run_round.ensures in
+    let done = c.in_ok-run_round.ensures.round in
     record {
       still = still_then s c.args.self.now c.loop.self c.run_round.new.self at.still c.run_round.ensures.still;
-      at = stays_then s c.args.self.now c.loop.self c.run_round.new.self at.at done.at;
-      turns = record { on = done.turns.on; others = awaited_then c.args.turn _ _ _ (at.still.stage.loopers.0 ∙ sym c.requires.stage.loopers.0) at.others done.turns.others };
-      rested = λ all same. done.rested.rested all (at.same same)
-          (grown_none (seen_by c.loop.self.controller.kit.posters.items) (seen_by c.run_round.new.self.controller.kit.posters.items) done.rested.grown
-          (sym c.entries_seen.ensures ∙ (c.if-entries_seen-before.true ∙ c.entries_seen-before.ensures)));
+      rounds = record {
+        at = stays_then s c.args.self.now c.loop.self c.run_round.new.self at.at done.at;
+        turns = record { on = done.turns.on; others = awaited_then c.args.turn _ _ _ (at.still.stage.loopers.0 ∙ sym c.requires.stage.loopers.0) at.others done.turns.others };
+        rested = λ all same. done.rested.rested all (at.same same)
+            (grown_none (seen_by c.loop.self.controller.kit.posters.items) (seen_by c.run_round.new.self.controller.kit.posters.items) done.rested.grown
+            (sym c.entries_seen.ensures ∙ (c.if-entries_seen-before.true ∙ c.entries_seen-before.ensures)));
+      };
     }

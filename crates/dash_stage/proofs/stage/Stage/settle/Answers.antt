@@ -16,14 +16,14 @@ returns-in_ok-run_rounds-2 g c =
     let first = c.args.self.now in
     let handed = c.hand_out.new.self in
     let after = c.run_rounds-then-has_many.new.self in
-    let last = c.in_ok-run_rounds-2.ensures in
+    let last = c.in_ok-run_rounds-2.ensures.rounds in
     record {
       still = still_then s first handed after (still_then s first c.run_rounds.new.self handed c.run_rounds.ensures.still c.hand_out.ensures.still) c.run_rounds-then-has_many.ensures.still;
       settles = record {
-        at = stays_then s first handed after (stays_then s first c.run_rounds.new.self handed c.in_ok-run_rounds.ensures.at c.in_ok-hand_out.ensures.at) last.at;
-        rested = λ same. last.rested refl c.in_ok-hand_out.ensures.same;
+        at = stays_then s first handed after (stays_then s first c.run_rounds.new.self handed c.in_ok-run_rounds.ensures.rounds.at c.in_ok-hand_out.ensures.shares.at) last.at;
+        rested = λ same. last.rested refl c.in_ok-hand_out.ensures.shares.same;
       };
     }
 
 pub returns-else-has_many-clause-settles : goal.returns-else-has_many-clause-settles
-returns-else-has_many-clause-settles g c = record { at = c.in_ok-run_rounds.ensures.at; rested = c.in_ok-run_rounds.ensures.rested refl }
+returns-else-has_many-clause-settles g c = (let rounds = c.in_ok-run_rounds.ensures.rounds in record { at = rounds.at; rested = rounds.rested refl })

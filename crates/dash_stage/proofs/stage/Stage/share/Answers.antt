@@ -17,8 +17,8 @@ returns c =
     record {
       shared = record {
         stage = stage_kept c.args.script.now c.share_each.new.self c.share_frames.new.self heard (each.stage true c.requires.stage);
-        kept = stage_then c.args.self.now c.share_each.new.self c.share_frames.new.self each.kept heard;
-        same = same_kept c.share_each.new.self c.share_frames.new.self frames.kept each.shared;
+        kept = stage_then c.args.self.now c.share_each.new.self c.share_frames.new.self each.shares.kept heard;
+        same = same_kept c.share_each.new.self c.share_frames.new.self frames.kept each.shares.shared;
         heard = frames.heard;
       };
     }

@@ -19,8 +19,10 @@ loop-looper-preserved c =
       share_more c.loop-looper.looper a b sh c.loop-looper.invariant.2,
     )
 
-pub returns-clause-stage : goal.returns-clause-stage
-returns-clause-stage c = λ lockstep is. stage_kept c.args.script.now c.args.self.now c.loop-looper.self c.loop-looper.invariant.1 is
-
-pub returns-clause-shared : goal.returns-clause-shared
-returns-clause-shared c = share_all c.args.script.now c.loop-looper.self c.loop-looper.invariant.0 c.loop-looper.looper (omega (arith, c.loop-looper-test.false)) c.loop-looper.invariant.2
+pub returns : goal.returns
+returns c =
+    let at = c.loop-looper in
+    record {
+      stage = λ lockstep is. stage_kept c.args.script.now c.args.self.now at.self at.invariant.1 is;
+      shares = record { kept = at.invariant.1; shared = share_all c.args.script.now at.self at.invariant.0 at.looper (omega (arith, c.loop-looper-test.false)) at.invariant.2 };
+    }

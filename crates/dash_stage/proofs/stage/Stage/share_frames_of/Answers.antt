@@ -1,4 +1,5 @@
 use Rattle.std.proofs.Common.{◌≡◌, List, refl, sym, subst, arith}
+use Rattle.std.specs.Prelude.{Option, Some, None, IsSome, IsSomeAnd}
 use Rattle.std.proofs.lemmas.List.{with_items_is}
 use Rattle.dash_threads.specs.declared.thread.PostingThread.{PostingThread}
 use Rattle.dash_hall.specs.Hearing.{AtEach, ArePassesReady}
@@ -13,28 +14,29 @@ use Rattle.dash_stage.proofs.stage.Stage.share_frames_of.Goals as goal
 pub index-requires : goal.index-requires
 index-requires c = in_choreographers (turns_on c.requires.stage.hall c.requires.stage.controller c.requires.place)
 
-pub share_passes-requires-clause-threads : goal.share_passes-requires-clause-threads
-share_passes-requires-clause-threads c =
-    subst (OfPasses (ArePassesReady c.args.place c.index.result.now)) (sym c.as_mut_slice.ensures.value)
-    (passes_ready c.args.script.now c.args.self.now c.requires.stage c.args.place c.requires.place c.index.result.now c.index.ensures)
-
 pub index_mut-requires-2 : goal.index_mut-requires-2
 index_mut-requires-2 c = in_passes (turns_on c.requires.stage.hall c.requires.stage.controller c.requires.place)
 
-pub share_passes-requires-clause-looper : goal.share_passes-requires-clause-looper
-share_passes-requires-clause-looper c =
+some_so : {T : Type 0} (P : T → Type 0) (o : Option T) → IsSomeAnd o P → IsSome o
+some_so P None h = absurd h
+some_so P (Some x) h = refl
+
+pub share_passes-requires : goal.share_passes-requires
+share_passes-requires c =
     let s = c.args.script.now in
     let st = c.args.self.now in
     let is = c.requires.stage in
-    let l = c.index_mut.result.now in
+    let place = c.args.place in
     let near = c.requires.place in
+    let l = c.index_mut.result.now in
     let count = is.loopers.0 in
-    let one = subst (λ (z : StageLooper). IsLooper s st.hall z × (z.number ≡ c.args.place)) (sym c.index_mut.ensures.value) (is.loopers.1 c.args.place l (omega (arith, near, count))) in
-    looper_passes s st is c.args.place near c.index.result.now c.index.ensures l one.0 one.1
-
-pub share_passes-requires-clause-pass : goal.share_passes-requires-clause-pass
-share_passes-requires-clause-pass c =
-    own_pass (turns_on c.requires.stage.hall c.requires.stage.controller c.requires.place) c.index_mut-2.ensures.value c.index.ensures
+    let one = subst (λ (z : StageLooper). IsLooper s st.hall z × (z.number ≡ place)) (sym c.index_mut.ensures.value) (is.loopers.1 place l (omega (arith, near, count))) in
+    record {
+      threads = subst (OfPasses (ArePassesReady place c.index.result.now)) (sym c.as_mut_slice.ensures.value) (passes_ready s st is place near c.index.result.now c.index.ensures);
+      parts = some_so _ l.parts one.0.parts;
+      looper = looper_passes s st is place near c.index.result.now c.index.ensures l one.0 one.1;
+      pass = own_pass (turns_on is.hall is.controller near) c.index_mut-2.ensures.value c.index.ensures;
+    }
 
 pub returns : goal.returns
 returns c =
@@ -52,5 +54,5 @@ returns c =
           (subst (λ (ys : List PostingThread). AtEach (HearsPass c.args.place whole) st.threads.items ys) (sym (with_items_is st.threads c.share_passes.new.threads (omega (arith, many, st.threads.ok.0)))) threads)
           c.index_mut.result.now c.share_passes.new.looper (omega (arith, near, loopers)) c.index_mut.ensures.value refl c.share_passes.ensures.looper
           c.index_mut-2.result.now c.share_passes.new.pass (omega (arith, near, frames)) c.index_mut-2.ensures.value refl
-          c.share_passes.ensures.pass.0 (c.share_passes.ensures.pass.1, refl) refl refl refl refl refl refl;
+          c.share_passes.ensures.pass (c.share_passes.ensures.who, refl) refl refl refl refl refl refl;
     }

@@ -18,23 +18,21 @@ index-requires c = in_queues (turns_on c.requires.stage.hall c.requires.stage.co
 pub index_mut-requires : goal.index_mut-requires
 index_mut-requires c = in_posters (turns_on c.requires.stage.hall c.requires.stage.controller c.requires.place)
 
-pub share_by-requires-clause-threads : goal.share_by-requires-clause-threads
-share_by-requires-clause-threads c =
-    subst (OfThreads (AreReady c.args.place c.index.result.now)) (sym c.as_mut_slice.ensures.value)
-    (threads_ready c.args.script.now c.args.self.now c.requires.stage c.args.place c.requires.place c.index.result.now c.index.ensures)
-
-pub share_by-requires-clause-loopers : goal.share_by-requires-clause-loopers
-share_by-requires-clause-loopers c =
-    subst (OfLoopers (AreReady c.args.place c.index.result.now)) (sym c.as_mut_slice-2.ensures.value)
-    (loopers_ready c.args.script.now c.args.self.now c.requires.stage c.args.place c.requires.place c.index.result.now c.index.ensures)
-
-pub share_by-requires-clause-within : goal.share_by-requires-clause-within
-share_by-requires-clause-within c = subst AreWithin (sym c.as_mut_slice-2.ensures.value) (are_within c.args.script.now c.args.self.now c.requires.stage)
-
-pub share_by-requires-clause-poster : goal.share_by-requires-clause-poster
-share_by-requires-clause-poster c =
-    ready_is c.args.self.now.controller.kit.posters.items c.args.place c.index_mut.result.now c.index.result.now
-    (controller_ready c.args.script.now c.args.self.now c.requires.stage c.args.place c.requires.place c.index.result.now c.index.ensures) c.index_mut.ensures.value
+pub share_by-requires : goal.share_by-requires
+share_by-requires c =
+    let s = c.args.script.now in
+    let st = c.args.self.now in
+    let is = c.requires.stage in
+    let place = c.args.place in
+    let near = c.requires.place in
+    let q = c.index.result.now in
+    let loopers = sym c.as_mut_slice-2.ensures.value in
+    record {
+      threads = subst (OfThreads (AreReady place q)) (sym c.as_mut_slice.ensures.value) (threads_ready s st is place near q c.index.ensures);
+      loopers = subst (OfLoopers (AreReady place q)) loopers (loopers_ready s st is place near q c.index.ensures);
+      within = subst AreWithin loopers (are_within s st is);
+      poster = ready_is st.controller.kit.posters.items place c.index_mut.result.now q (controller_ready s st is place near q c.index.ensures) c.index_mut.ensures.value;
+    }
 
 pub returns : goal.returns
 returns c =

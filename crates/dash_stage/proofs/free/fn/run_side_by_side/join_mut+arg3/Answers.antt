@@ -13,8 +13,7 @@ returns g c =
     let middle = c.run_main-early.new.controller in
     let last = c.quit_others.new.controller in
     record {
-      beside = run.ran.beside;
-      looped = λ done. run.ran.looped (quit.heeds done);
+      ran = record { beside = run.ran.beside; looped = λ done. run.ran.looped (quit.heeds done) };
       ends = record {
         quit = λ done. quits_heard run.hears.kept (quit.quit done);
         behind = λ done. behind_on _ threads threads middle last (same_threads threads) (quit.quit done).more run.hears.behind;

@@ -4,14 +4,11 @@ use Rattle.run_model.specs.Moments.{in_lockstep}
 use Rattle.dash_stage.proofs.BlockTimes.Limits.{playable}
 use Rattle.dash_stage.proofs.Moves.MovesRecords.{moved_at_start}
 use Rattle.dash_stage.proofs.Played.InTurn.{turn_later}
-use Rattle.dash_stage.proofs.run.run_script.Goals as goal
-
-pub give_up-requires-clause-some : goal.give_up-requires-clause-some
-give_up-requires-clause-some g c κs within = (playable c.args.script c.requires).loopers
+use Rattle.dash_stage.proofs.run.played.Goals as goal
 
 pub play-requires-clause-begun : goal.play-requires-clause-begun
 play-requires-clause-begun g c κs within =
-    let s = c.args.script in
+    let s = c.args.script.now in
     let st = c.in_ok-stage.stage in
     let opened = c.in_ok-stage.ensures.opened in
     let zero_time = opened.zero in
