@@ -10,7 +10,8 @@ ghost use Rattle.dash_hall.specs.Kits.{IsUnusedKit, frame_badge_of};
 ghost use Rattle.dash_hall.specs.Hosts.{PostsFrame};
 ghost use Rattle.dash_hall.specs.QueueCalls.{posts_barrier};
 ghost use Rattle.dash_threads.specs.AtWork.{IsAtWork, StaysAtWork, WorksOn, RunsUnlessGivenUp, RunsLines, DoesWork};
-ghost use Rattle.dash_threads.specs.Threads.{CallsAt, with_barrier, MakesPlanned, Takes, TakesAt, TakesAtAny, Continues, HasBegun, one_pass_more, rungs_of, one_more};
+ghost use Rattle.dash_threads.specs.Threads.{CallsAt, with_barrier, MakesPlanned, Takes, TakesAt, TakesAtAny, Continues, HasBegun};
+ghost use Rattle.dash_threads.specs.Threads.{one_pass_more, rungs_of, one_more};
 
 use crate::labels::Labelled;
 use crate::planned::call_for;
@@ -312,7 +313,8 @@ impl PostingThread {
     ) -> Result<(), NoMemory>
         requires at_work { IsAtWork script.now hall.now self.old }
         requires heeds { look.now ≡ false }
-        ensures { DoesWork script.now hall.now (TakesAt hall.now.lockstep script.now post.now (Frame looper post.phase post.id post.delay)) self.old self.new result }
+        ensures { DoesWork script.now hall.now (TakesAt hall.now.lockstep script.now post.now (Frame looper post.phase post.id post.delay))
+            self.old self.new result }
     {
         let place = looper as usize;
         let phases = phase_count(script.edition);

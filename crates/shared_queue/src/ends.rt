@@ -4,7 +4,8 @@ ghost use Rattle.message_slot.specs.Letter.{IsAtHome};
 ghost use Rattle.shared_queue.specs.Constants.{constants_of};
 ghost use Rattle.shared_queue.specs.Turn.{IsFirst, opening_view};
 ghost use Rattle.shared_queue.specs.Known.{Rests, IsOf};
-ghost use Rattle.shared_queue.specs.Ends.{undealt, IsNewPoster, AreNew, AreInOrder, AreAllPosters, TakenIn, Gathered, IsLeftBy, AreLeftAsAccepted, IsLast, IsWholeEnd, KeepsConstants, HaveSealed};
+ghost use Rattle.shared_queue.specs.Ends.{undealt, IsNewPoster, AreNew, AreInOrder, AreAllPosters, TakenIn, Gathered};
+ghost use Rattle.shared_queue.specs.Ends.{IsLeftBy, AreLeftAsAccepted, IsLast, IsWholeEnd, KeepsConstants, HaveSealed};
 
 use crate::on_heap::OnHeap;
 use crate::poster::Poster;

@@ -11,3 +11,8 @@ retire-requires-clause-sealed c κs = given_sealed c.args.kits.now.items c.in_ok
 
 pub returns-clause-kits : goal.returns-clause-kits
 returns-clause-kits c = ends_posters c.args.queue c.args.kits.now.items c.in_ok-posters.posters.items c.posters.new.kits.items (history_of c.in_ok-retired.retired.kept) c.requires.next c.in_ok-posters.ensures c.in_ok-retired.ensures.end.calls
+
+pub returns-clause-kept : goal.returns-clause-kept
+returns-clause-kept c =
+    let r = c.in_ok-retired.ensures in
+    record { looper = r.kept.looper; setting = r.kept.setting; chain = r.end.chain; legal = r.end.sound.legal; numbered = r.end.sound.numbered }

@@ -65,27 +65,30 @@ returns-then-post-phases g c =
             (c.post_frame.ensures.on.rung ∙ ap (λ (z : Sender). z.view.rung) c.index_mut.ensures.value);
       };
       made = on_ok c.post_frame.result _ _
-      (λ made. λ m time mode allowed past rest are up. frame_progress m s time c.args.post.now c.args.looper c.args.post.phase c.args.post.id c.args.post.delay t.number t.barriers.items t.kit.posters.items t.kit.frames.items p q f h past allowed (its_mode m s c.args.hall.now t c.requires.at_work.hall c.requires.at_work.thread mode) c.index_mut.ensures.value c.index_mut-then-post-phases.ensures.value near near' c.post_frame.ensures.on.sender (c.post_frame.ensures.on.more, sym c.post_frame.ensures.on.seen)
-      (subst (λ (x : Handler). PostsFrame x.id c.args.post.now c.args.post.phase c.args.post.id c.args.post.delay p q f h) c.frame_handler.ensures made) up)
-      c.post_frame.ensures.made;
+          (λ made. λ m time mode allowed past rest are up. frame_progress m s time c.args.post.now c.args.looper c.args.post.phase c.args.post.id c.args.post.delay t.number t.barriers.items t.kit.posters.items t.kit.frames.items p q f h past allowed (its_mode m s c.args.hall.now t c.requires.at_work.hall c.requires.at_work.thread mode) c.index_mut.ensures.value c.index_mut-then-post-phases.ensures.value near near' c.post_frame.ensures.on.sender (c.post_frame.ensures.on.more, sym c.post_frame.ensures.on.seen)
+          (subst (λ (x : Handler). PostsFrame x.id c.args.post.now c.args.post.phase c.args.post.id c.args.post.delay p q f h) c.frame_handler.ensures made) up)
+          c.post_frame.ensures.made;
     }
 
 pub returns : goal.returns
-returns g c = record { works = works_still _ _ _ c.requires.at_work.thread; made = λ m time mode allowed past rest are up. (
-    let t = c.args.self.now in
-    let s = c.args.script.now in
-    let hall = c.args.hall.now in
-    let within = frame_within s t.number time c.args.looper c.args.post.phase c.args.post.id c.args.post.delay past rest c.requires.at_work.text are in
-    let lt = within.0 in
-    let ph = within.1 in
-    let queues = queue_count hall.lockstep s hall.pool hall.queues.items c.requires.at_work.hall.queues in
-    let posters = alike_length badge_of (badge_for t.number) t.kit.posters.items hall.queues.items c.requires.at_work.thread.posters in
-    let cs = choreographer_count s hall.choreographers.items c.requires.at_work.hall.choreographers in
-    let frames = alike_length frame_badge_of (frame_badge_for t.number) t.kit.frames.items hall.choreographers.items c.requires.at_work.thread.frames in
-    elim c.else-place-len.branch [
-      | else-place-len-via-then-place-len+then-place-len-2+then-place-len-3+then-place-len-4+else-post-phases w ↦ absurd (omega (arith, ph, c.phase_count-phases.ensures, w.if-post-phases.false))
-      | else-place-len-via-then-place-len+then-place-len-2+then-place-len-3+else-place-len-4 w ↦ absurd (omega (arith, lt, cs, w.len-then-place-len-3.ensures, w.if-place-len-4.false))
-      | else-place-len-via-then-place-len+then-place-len-2+else-place-len-3 w ↦ absurd (omega (arith, lt, cs, frames, w.len-then-place-len-2.ensures, w.if-place-len-3.false))
-      | else-place-len-via-then-place-len+else-place-len-2 w ↦ absurd (omega (arith, lt, queues, w.len-then-place-len.ensures, w.if-place-len-2.false))
-      | else-place-len-via-else-place-len w ↦ absurd (omega (arith, lt, queues, posters, c.len.ensures, w.if-place-len.false))
-    ]) }
+returns g c = record {
+  works = works_still _ _ _ c.requires.at_work.thread;
+  made = λ m time mode allowed past rest are up. (
+      let t = c.args.self.now in
+      let s = c.args.script.now in
+      let hall = c.args.hall.now in
+      let within = frame_within s t.number time c.args.looper c.args.post.phase c.args.post.id c.args.post.delay past rest c.requires.at_work.text are in
+      let lt = within.0 in
+      let ph = within.1 in
+      let queues = queue_count hall.lockstep s hall.pool hall.queues.items c.requires.at_work.hall.queues in
+      let posters = alike_length badge_of (badge_for t.number) t.kit.posters.items hall.queues.items c.requires.at_work.thread.posters in
+      let cs = choreographer_count s hall.choreographers.items c.requires.at_work.hall.choreographers in
+      let frames = alike_length frame_badge_of (frame_badge_for t.number) t.kit.frames.items hall.choreographers.items c.requires.at_work.thread.frames in
+      elim c.else-place-len.branch [
+        | else-place-len-via-then-place-len+then-place-len-2+then-place-len-3+then-place-len-4+else-post-phases w ↦ absurd (omega (arith, ph, c.phase_count-phases.ensures, w.if-post-phases.false))
+        | else-place-len-via-then-place-len+then-place-len-2+then-place-len-3+else-place-len-4 w ↦ absurd (omega (arith, lt, cs, w.len-then-place-len-3.ensures, w.if-place-len-4.false))
+        | else-place-len-via-then-place-len+then-place-len-2+else-place-len-3 w ↦ absurd (omega (arith, lt, cs, frames, w.len-then-place-len-2.ensures, w.if-place-len-3.false))
+        | else-place-len-via-then-place-len+else-place-len-2 w ↦ absurd (omega (arith, lt, queues, w.len-then-place-len.ensures, w.if-place-len-2.false))
+        | else-place-len-via-else-place-len w ↦ absurd (omega (arith, lt, queues, posters, c.len.ensures, w.if-place-len.false))
+      ]);
+}
