@@ -1,6 +1,6 @@
 -- A call that was one turn.
-use Rattle.std.proofs.Common.{◌≡◌, ℕ, ◌+◌, ◌≤◌, Option, List, [], ◌∷◌, ◌++◌, cond, eqb, eq-eqb, map, drop, reverse, Some, None, refl, sym, ap, ◌∙◌, subst, arith, length, length-append}
-use Rattle.std.specs.Prelude.{◌-◌, Result, Ok, Err, IfOk}
+use Rattle.std.proofs.Common.{◌≡◌, ℕ, ◌+◌, ◌≤◌, Bool, true, false, Option, List, [], ◌∷◌, ◌++◌, cond, eqb, eq-eqb, map, drop, reverse, Some, None, refl, sym, ap, ◌∙◌, subst, arith, length, length-append}
+use Rattle.std.specs.Prelude.{◌-◌, nat_lt, Result, Ok, Err, IfOk}
 use mathlib.Core.List.{IsPrefix}
 use Rattle.loop_model.specs.declared.memory.NoMemory.{NoMemory}
 use Rattle.frame_phases.specs.declared.entry.FrameEntry.{FrameEntry}
@@ -13,16 +13,25 @@ use Rattle.choreographer.specs.declared.view.Constants.{Constants}
 use Rattle.choreographer.specs.declared.view.Progress.{Progress}
 use Rattle.choreographer.specs.declared.view.View.{View}
 use Rattle.choreographer.specs.Frame.{begin_place, progress, progress_of, GrowsQuietly}
-use Rattle.choreographer.specs.Turn.{HasConstants, count_of, holds, last_of, measured, sealed_of, awaits_frame, taking, giving}
+use Rattle.choreographer.specs.Turn.{HasConstants, count_of, holds, last_of, measured, sealed_of, asked_of, delivers_by, AsksIfScheduled, taking, giving}
 use Rattle.choreographer.specs.Plays.{Sat, FoundBy, FoundPulse, FoundHeard, MayGive, MaySeal, MayPulse}
 use Rattle.choreographer.specs.Steps.{HasSameConstants, StepsBy}
 use Rattle.choreographer.specs.Known.{Known, HasOwn, HearsTurn, IsTurn}
 use Rattle.loop_model.proofs.Prefixes.{prefix_self}
 use Rattle.choreographer.proofs.Heard.{entries_given, heard_given, numbers_given, turn_hears}
 use Rattle.choreographer.proofs.Quiet.{grows_self}
+use Rattle.choreographer.proofs.Waits.{KeepsWait}
+use Rattle.std.specs.Option.{option_map_or}
 
 pub same_key : (key c : Constants) (o : Option Constants) → o ≡ Some key → o ≡ Some c → key ≡ c
 same_key key c o e f = let both : Some key ≡ Some c = sym e ∙ f in cc (both)
+
+-- the pass that alone delivers pulses is among its own
+delivers : (v : View) (key : Constants) (n : ℕ) → v.constants ≡ Some key → key.pulses ≡ Some n → v.passes ≡ n ∷ [] → delivers_by v.constants v.passes ≡ true
+delivers v key n own_key named only =
+    let here : cond {A = ℕ} (eqb n n) 1 0 ≡ 1 = ap (λ b. cond {A = ℕ} b 1 0) (eq-eqb n n refl) in
+    let one : count_of n (n ∷ []) ≡ 1 = omega (arith, here) in
+    (λ i. delivers_by (own_key i) (only i)) ∙ (ap (λ (o : Option ℕ). option_map_or (λ m. nat_lt 0 (count_of m (n ∷ []))) o false) named ∙ ap (nat_lt 0) one)
 
 -- a pass that took the turn, found x, and gave the turn back with y
 one_turn : (key : Constants) (before after : Known) (x y : Kept) (made : List (ℕ × FrameEntry)) → after.table ≡ before.table → after.number ≡ before.number
@@ -48,6 +57,9 @@ one_turn key before after x y made table number is own_key of_x of_y found grows
   awaits = λ c e named.
       let same = (latest before.number (ap (λ (k : Constants). k.pulses) (same_key key c before.view.constants own_key e) ∙ named) only).1 in
       (same, ap (λ (v : View). v.awaits) is ∙ omega (arith, same));
+  asks = λ c e named.
+      let mine = ap (λ (k : Constants). k.pulses) (same_key key c before.view.constants own_key e) ∙ named in
+      ((latest before.number mine only).2, ap (λ (v : View). v.asks) is ∙ ap (λ (b : Bool). cond b (asked_of y) 0) (delivers before.view key before.number own_key mine only));
   hears = hears;
 }
 
@@ -81,10 +93,10 @@ own_given key v x own_key own more seals = record {
 pub keeps_handed : (key : Constants) (v : View) (x y : Kept) (made : List (ℕ × FrameEntry)) → HasSameConstants x y → MaySeal key (taking v x made) y
 keeps_handed key v x y made same = let long = ap length same.3 in (omega (arith, long), λ _. long)
 
--- where the stamp stays and whether a frame is to begin, and callbacks are posted and removed alone, the state may be given back
-pub keeps_pulse : (key : Constants) (v : View) (x y : Kept) (s : Sat) → s ≡ (taking v x s.0.heard, (0, None) ∷ []) → y.stamp ≡ x.stamp → awaits_frame y ≡ awaits_frame x
+-- where the stamp stays, whether a frame is to begin, and a pulse that is asked for, and callbacks are posted and removed alone, the state may be given back
+pub keeps_pulse : (key : Constants) (v : View) (x y : Kept) (s : Sat) → s ≡ (taking v x s.0.heard, (0, None) ∷ []) → y.stamp ≡ x.stamp → KeepsWait x y → AsksIfScheduled key x
     → GrowsQuietly x.frames.entries y.frames.entries → MayPulse key s.0 y
-keeps_pulse key v x y s took stamp awaits quiet = subst (λ (z : Sat). MayPulse key z.0 y) (sym took) (λ n named elsewhere. (stamp, awaits, quiet))
+keeps_pulse key v x y s took stamp waits asks quiet = subst (λ (z : Sat). MayPulse key z.0 y) (sym took) (λ n named elsewhere. (stamp, waits.awaits, quiet, waits.asked key asks n named))
 
 -- the seat of the pass that alone delivers pulses may change it
 pub may_pulse : (key : Constants) (v : View) (x y : Kept) (made : List (ℕ × FrameEntry)) (number : ℕ) → v.passes ≡ number ∷ [] → ((n : ℕ) → key.pulses ≡ Some n → number ≡ n) → MayPulse key (taking v x made) y

@@ -91,5 +91,6 @@ module _ (number : ℕ) (s : Sat) (o : View) (m n : Sat) (idle : IsIdle number s
     handed = handed_now;
     stamp = ap (λ (z : View). z.stamp) now ∙ omega arith;
     awaits = ap (λ (z : View). z.awaits) now ∙ omega arith;
+    asks = ap (λ (z : View). z.asks) now ∙ omega arith;
     quiet = heard_quietly;
   }

@@ -8,7 +8,7 @@ use Rattle.loop_model.specs.Lists.{total}
 use Rattle.loop_model.proofs.Sums.{total-append, total-set}
 use Rattle.choreographer.specs.declared.kept.Kept.{Kept}
 use Rattle.choreographer.specs.declared.view.View.{View}
-use Rattle.choreographer.specs.Turn.{Board, measured, AddsUp}
+use Rattle.choreographer.specs.Turn.{Board, measured, AddsUp, KnowsOf}
 
 -- a sum to which nothing adds
 all_zero : (f : View → ℕ) (views : List View) → ((j : ℕ) (u : View) → get_elem? views j ≡ some u → f u ≡ 0) → total f views ≡ 0
@@ -102,3 +102,24 @@ module _ (measure : Kept → ℕ) (share : View → ℕ) where
   pub given_sum : (s : Board) (x : Kept) (id : ℕ) (v w : View) → AddsUp measure share s → get_elem? s.views id ≡ some v → v.has_turn ≡ true
       → measured measure v.found ≤ share v + measure x → share w ≡ share v + measure x - measured measure v.found → measure x ≡ total share (set s.views id w)
   given_sum s x id v w a at has enough is = let t = total-set share s.views id v w at in let was = a.out id v at has in omega (arith, t, was, enough, is)
+
+  -- so it is with what they know of a measure, where they know anything
+  pub knows_same : (s : Board) (words : List ℕ) (views : List View) → KnowsOf measure share s → total share views ≡ total share s.views → AreStill s.views views
+      → KnowsOf measure share (record { words = words; homes = s.homes; views = views })
+  knows_same s words views a same still = record {
+    home = λ x here any. a.home x here (λ none. any (same ∙ none)) ∙ sym same;
+    out = λ j u there has any. let was = still j u there has in a.out was.0 u was.1 has (λ none. any (same ∙ none)) ∙ sym same;
+  }
+
+  pub knows_taken : (s t : Board) (x : Kept) → KnowsOf measure share s → get_elem? s.homes 0 ≡ some (some (Some x)) → ((y : Kept) → get_elem? t.homes 0 ≡ some (some (Some y)) → ⊥)
+      → total share t.views ≡ total share s.views → ((j : ℕ) (u : View) → get_elem? t.views j ≡ some u → u.has_turn ≡ true → u.found ≡ Some x) → KnowsOf measure share t
+  knows_taken s t x a here nothing same found = record {
+    home = λ y there. absurd (nothing y there);
+    out = λ j u there has any. ap (measured measure) (found j u there has) ∙ (a.home x here (λ none. any (same ∙ none)) ∙ sym same);
+  }
+
+  pub knows_home : (t : Board) (x : Kept) → ((y : Kept) → get_elem? t.homes 0 ≡ some (some (Some y)) → x ≡ y) → (total share t.views ≢ 0 → measure x ≡ total share t.views) → AreIdle t.views → KnowsOf measure share t
+  knows_home t x this same idle = record {
+    home = λ y there any. ap measure (sym (this y there)) ∙ same any;
+    out = λ j u there has. absurd (idle j u there has);
+  }

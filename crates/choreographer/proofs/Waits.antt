@@ -1,5 +1,5 @@
 -- What a turn leaves of a frame that is to begin, and of what is asked for.
-use Rattle.std.proofs.Common.{◌≡◌, ℕ, Bool, true, false, true≢false, cond, List, Option, Some, None, refl, sym, ap, ◌∙◌, subst, arith}
+use Rattle.std.proofs.Common.{◌≡◌, ◌≢◌, ℕ, Bool, true, false, true≢false, cond, List, Option, Some, None, refl, sym, ap, ◌∙◌, subst, arith}
 use Rattle.std.specs.Prelude.{◌/◌, max, ◌&&◌, is_some, is_none, nat_lt, if◌then◌else◌, Result, Ok, Err, OnOk, OnErr}
 use Rattle.loop_model.specs.declared.memory.NoMemory.{NoMemory}
 use Rattle.frame_phases.specs.declared.entry.FrameEntry.{FrameEntry}
@@ -13,7 +13,8 @@ use Rattle.frame_phases.specs.Pulses.{pulse}
 use Rattle.frame_phases.specs.State.{Frames, with_entry, scheduled_at, next_callback, removed, delivered, BeginsBy, TakesBy, Seals}
 use Rattle.choreographer.specs.declared.kept.Kept.{Kept}
 use Rattle.choreographer.specs.declared.view.Constants.{Constants}
-use Rattle.choreographer.specs.Turn.{AsksIfScheduled, awaits_frame}
+use Rattle.std.specs.Option.{option_map_or}
+use Rattle.choreographer.specs.Turn.{AsksIfScheduled, awaits_frame, asked_of}
 use Rattle.choreographer.specs.Steps.{pulsed, known_by, posts_at}
 use Rattle.choreographer.specs.Calls.{with_post}
 
@@ -21,6 +22,8 @@ use Rattle.choreographer.specs.Calls.{with_post}
 pub record KeepsWait (x y : Kept) : Type 0 where
   pub awaits : awaits_frame y ≡ awaits_frame x
   pub asks : (key : Constants) → AsksIfScheduled key x → AsksIfScheduled key y
+  -- where one pass alone delivers pulses, a pulse that is asked for stays so
+  pub asked : (key : Constants) → AsksIfScheduled key x → (n : ℕ) → key.pulses ≡ Some n → asked_of x ≢ 0 → asked_of y ≡ asked_of x
 
 -- a frame is to begin where it is scheduled and nothing is asked for
 to_begin : (scheduled : Bool) (asked : Option ℕ) → cond {A = ℕ} (scheduled && is_none asked) 1 0 ≡ 1 → (scheduled ≡ true) × (asked ≡ None)
@@ -33,6 +36,11 @@ none_asked : (scheduled : Bool) (p : ℕ) → cond {A = ℕ} (scheduled && is_no
 none_asked true p = refl
 none_asked false p = refl
 
+-- one is asked for where there is more than none
+some_asked : (asked : Option ℕ) → option_map_or (λ p. p) asked 0 ≢ 0 → is_some asked ≡ true
+some_asked None any = absurd (any refl)
+some_asked (Some p) any = refl
+
 -- a pulse that is delivered is the one that was asked for
 was_asked : (o : Option ℕ) (now stamp : ℕ) → Some stamp ≡ delivered o now → (p : ℕ) × (o ≡ Some p)
 was_asked None now stamp is = absurd (cc (is))
@@ -44,6 +52,7 @@ module _ (x y : Kept) where
   keeps_same scheduled asked = record {
     awaits = λ i. cond (scheduled i && is_none (asked i)) 1 0;
     asks = λ key if_scheduled n named any. scheduled ∙ if_scheduled n named (ap is_some (sym asked) ∙ any);
+    asked = λ key if_scheduled n named any. ap (λ (o : Option ℕ). option_map_or (λ p. p) o 0) asked;
   }
 
   pub keeps_all : y.frames ≡ x.frames → KeepsWait x y
@@ -54,6 +63,7 @@ module _ (x y : Kept) where
   keeps_new p none scheduled asked = record {
     awaits = (λ i. cond (scheduled i && is_none (asked i)) 1 0) ∙ ap (λ b. cond {A = ℕ} (b && is_none x.frames.asked) 1 0) (sym none);
     asks = λ key if_scheduled n named any. scheduled;
+    asked = λ key if_scheduled n named any. absurd (true≢false (sym (if_scheduled n named (some_asked x.frames.asked any)) ∙ none));
   }
 
   -- a frame is scheduled unless one is

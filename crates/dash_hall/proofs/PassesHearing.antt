@@ -16,7 +16,7 @@ use Rattle.dash_hall.proofs.Sharing.{each_then, each_self}
 -- a pass as it is
 pub pass_heard_self : (p : Pass) → PassHasHeard p p
 pass_heard_self p = record {
-  same = record { table = refl; number = refl; constants = refl; turns = refl; found = refl; left = refl; frame = refl; own = refl; handed = refl; stamp = refl; awaits = refl; quiet = λ c e named. grows_self p.view.seen };
+  same = record { table = refl; number = refl; constants = refl; turns = refl; found = refl; left = refl; frame = refl; own = refl; handed = refl; stamp = refl; awaits = refl; asks = refl; quiet = λ c e named. grows_self p.view.seen };
   seen = prefix_self p.view.seen;
   more = prefix_self p.view.heard;
 }
@@ -40,6 +40,7 @@ pass_heard_then p q r f g = record {
     handed = g.same.handed ∙ f.same.handed;
     stamp = g.same.stamp ∙ f.same.stamp;
     awaits = g.same.awaits ∙ f.same.awaits;
+    asks = g.same.asks ∙ f.same.asks;
     quiet = λ c e named. grows_trans p.view.seen q.view.seen r.view.seen (f.same.quiet c e named) (g.same.quiet c (f.same.constants ∙ e) (named ∙ ap Some (sym f.same.number)));
   };
   seen = prefix_trans p.view.seen q.view.seen r.view.seen f.seen g.seen;

@@ -10,7 +10,7 @@ give-requires-clause-leaves g c = record {
   state = search rules;
   stamped = search rules;
   handed = search rules;
-  latest = keeps_pulse c.args.self.now.constants c.pass.inside.seat.me.0 c.take-state.result c.take-state.result c.take-state.new.seat.me c.take-state.ensures.taken refl (keeps_all c.take-state.result c.take-state.result refl).awaits (grows_self c.take-state.result.frames.entries);
+  latest = keeps_pulse c.args.self.now.constants c.pass.inside.seat.me.0 c.take-state.result c.take-state.result c.take-state.new.seat.me c.take-state.ensures.taken refl (keeps_all c.take-state.result c.take-state.result refl) c.take-state.ensures.found.asks (grows_self c.take-state.result.frames.entries);
   asks = search rules;
 }
 

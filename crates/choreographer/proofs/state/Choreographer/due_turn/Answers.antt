@@ -12,7 +12,7 @@ give-requires-clause-leaves g c = record {
       let e = c.schedule_due-did.ensures in
       stamped_due c.take-state.result c.schedule_due-did.new.self c.take-state.ensures.found.stamped c.args.now c.schedule_due-did.result e.after e.quiet e.stamp);
   handed = search rules;
-  latest = keeps_pulse c.args.self.now.constants c.pass.inside.seat.me.0 c.take-state.result c.schedule_due-did.new.self c.take-state.new.seat.me c.take-state.ensures.taken c.schedule_due-did.ensures.stamp (due_waits c.take-state.result c.schedule_due-did.new.self c.args.now c.schedule_due-did.result c.schedule_due-did.ensures.after).awaits c.schedule_due-did.ensures.quiet.1;
+  latest = keeps_pulse c.args.self.now.constants c.pass.inside.seat.me.0 c.take-state.result c.schedule_due-did.new.self c.take-state.new.seat.me c.take-state.ensures.taken c.schedule_due-did.ensures.stamp (due_waits c.take-state.result c.schedule_due-did.new.self c.args.now c.schedule_due-did.result c.schedule_due-did.ensures.after) c.take-state.ensures.found.asks c.schedule_due-did.ensures.quiet.1;
   asks = (due_waits c.take-state.result c.schedule_due-did.new.self c.args.now c.schedule_due-did.result c.schedule_due-did.ensures.after).asks c.args.self.now.constants c.take-state.ensures.found.asks;
 }
 

@@ -12,7 +12,7 @@ give-requires-clause-leaves g c = record {
       let e = c.post-answer.ensures in
       let a = c.args.asked in stamped_posted c.take-state.result c.post-answer.new.self c.take-state.ensures.found.stamped a.phase a.due a.id a.token c.args.now c.post-answer.result e.after e.err e.quiet e.stamp);
   handed = search rules;
-  latest = keeps_pulse c.args.self.now.constants c.pass.inside.seat.me.0 c.take-state.result c.post-answer.new.self c.take-state.new.seat.me c.take-state.ensures.taken c.post-answer.ensures.stamp (posted_waits c.take-state.result c.post-answer.new.self c.args.asked.phase c.args.asked.due c.args.asked.id c.args.asked.token c.args.now c.post-answer.result c.post-answer.ensures.after c.post-answer.ensures.err).awaits c.post-answer.ensures.quiet.1;
+  latest = keeps_pulse c.args.self.now.constants c.pass.inside.seat.me.0 c.take-state.result c.post-answer.new.self c.take-state.new.seat.me c.take-state.ensures.taken c.post-answer.ensures.stamp (posted_waits c.take-state.result c.post-answer.new.self c.args.asked.phase c.args.asked.due c.args.asked.id c.args.asked.token c.args.now c.post-answer.result c.post-answer.ensures.after c.post-answer.ensures.err) c.take-state.ensures.found.asks c.post-answer.ensures.quiet.1;
   asks = (posted_waits c.take-state.result c.post-answer.new.self c.args.asked.phase c.args.asked.due c.args.asked.id c.args.asked.token c.args.now c.post-answer.result c.post-answer.ensures.after c.post-answer.ensures.err).asks c.args.self.now.constants c.take-state.ensures.found.asks;
 }
 

@@ -12,7 +12,7 @@ give-requires-clause-leaves g c = record {
       let e = c.remove-answer.ensures in
       stamped_removed c.take-state.result c.remove-answer.new.self c.take-state.ensures.found.stamped c.args.phase c.args.id c.args.token c.remove-answer.result e.after e.err e.quiet e.stamp);
   handed = search rules;
-  latest = keeps_pulse c.args.self.now.constants c.pass.inside.seat.me.0 c.take-state.result c.remove-answer.new.self c.take-state.new.seat.me c.take-state.ensures.taken c.remove-answer.ensures.stamp (removed_waits c.take-state.result c.remove-answer.new.self c.args.phase c.args.id c.args.token c.remove-answer.result c.remove-answer.ensures.after c.remove-answer.ensures.err).awaits c.remove-answer.ensures.quiet.1;
+  latest = keeps_pulse c.args.self.now.constants c.pass.inside.seat.me.0 c.take-state.result c.remove-answer.new.self c.take-state.new.seat.me c.take-state.ensures.taken c.remove-answer.ensures.stamp (removed_waits c.take-state.result c.remove-answer.new.self c.args.phase c.args.id c.args.token c.remove-answer.result c.remove-answer.ensures.after c.remove-answer.ensures.err) c.take-state.ensures.found.asks c.remove-answer.ensures.quiet.1;
   asks = (removed_waits c.take-state.result c.remove-answer.new.self c.args.phase c.args.id c.args.token c.remove-answer.result c.remove-answer.ensures.after c.remove-answer.ensures.err).asks c.args.self.now.constants c.take-state.ensures.found.asks;
 }
 

@@ -18,7 +18,7 @@ give-requires-clause-leaves g c = record {
       let x = c.take-state.result in
       subst (λ (z : Sat). MaySeal c.args.self.now.constants z.0 c.seal-answer.new.self) (sym c.take-state.ensures.taken)
       (may_seal c.args.self.now.constants c.pass.inside.seat.me.0 x c.seal-answer.new.self c.take-state.new.seat.me.0.heard c.pass.inside.number c.pass.invariant.2 (ap (λ (p : Known). p.number + 1) c.pass.view_is ∙ c.requires.last) (hands_more x.frames c.seal-answer.new.self.frames c.seal-answer.result c.seal-answer.ensures.seals)));
-  latest = keeps_pulse c.args.self.now.constants c.pass.inside.seat.me.0 c.take-state.result c.seal-answer.new.self c.take-state.new.seat.me c.take-state.ensures.taken c.seal-answer.ensures.stamp (sealed_waits c.take-state.result c.seal-answer.new.self c.seal-answer.result c.seal-answer.ensures.seals).awaits
+  latest = keeps_pulse c.args.self.now.constants c.pass.inside.seat.me.0 c.take-state.result c.seal-answer.new.self c.take-state.new.seat.me c.take-state.ensures.taken c.seal-answer.ensures.stamp (sealed_waits c.take-state.result c.seal-answer.new.self c.seal-answer.result c.seal-answer.ensures.seals) c.take-state.ensures.found.asks
       (subst (GrowsQuietly c.take-state.result.frames.entries) (sym c.seal-answer.ensures.quiet.1) (grows_self c.take-state.result.frames.entries));
   asks = (sealed_waits c.take-state.result c.seal-answer.new.self c.seal-answer.result c.seal-answer.ensures.seals).asks c.args.self.now.constants c.take-state.ensures.found.asks;
 }
