@@ -33,14 +33,14 @@ pub record MayAct {D : Type 0} (Works : D → Workplace → Type 0) (Awaiting : 
   pub answered : IsAnswered (Passing d) pool l answer
 
 -- the looper took this message last, which is of this pool as its pass is, and its dispatcher, which serves it, awaits none
-pub record MayDispatch {D : Type 0} (Works : D → Workplace → Type 0) (Awaiting : D → Option ℕ → Type 0) (Passing : D → ℕ → List Entry → List Act → Type 0)
+pub record TookOfPool {D : Type 0} (Works : D → Workplace → Type 0) (Awaiting : D → Option ℕ → Type 0) (Passing : D → ℕ → List Entry → List Act → Type 0)
     (d : D) (pool : TableId) (h : Holding) (n : ℕ) (m : Node) (now : ℕ) : Type 0 where
   pub ready : HasToDispatch Works Awaiting Passing d h n m now
   pub pass : h.pass.home ≡ pool
   pub node : IsNodeOf pool m
 
 -- a part of a looper's run: what is kept is kept, unless memory was wanting the dispatcher rests between two dispatches, and so the looper is over or not
-pub record ComesBy {D : Type 0} {O : Type 0} (Works : D → Workplace → Type 0) (source : D → O) (count : D → ℕ) (told : D → Option (List Asked))
+pub record GoesThrough {D : Type 0} {O : Type 0} (Works : D → Workplace → Type 0) (source : D → O) (count : D → ℕ) (told : D → Option (List Asked))
     (Awaiting : D → Option ℕ → Type 0) (Passing : D → ℕ → List Entry → List Act → Type 0) (Stands : Holding → Holding → Type 0)
     (unless : Type 0 → Type 0) (before after : D) (l l' : Looping) (over : Bool) : Type 0 where
   pub keeps : KeepsLooper Works source count told Stands before after l.held l'.held

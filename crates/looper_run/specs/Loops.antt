@@ -241,7 +241,7 @@ IsNoWait (nexted.End left) = Unit {0}
 IsNoWait nexted.Over = Unit {0}
 
 -- what a looper acts on behind a wait
-pub record IsFound (waiting : Waited Claimed TableId) (answer : Nexted Claimed TableId) : Type 0 where
+pub record AnswersWait (waiting : Waited Claimed TableId) (answer : Nexted Claimed TableId) : Type 0 where
   pub answers : Answers waiting answer
   pub no_wait : IsNoWait answer
   pub home : (pool : TableId) → WaitsAtHome (λ (c : Claimed). c.home) pool waiting → IsAnswerOf pool answer

@@ -54,7 +54,7 @@ pub record HasRouted {D : Type 0} (Awaiting : D → Option ℕ → Type 0) (Pass
   pub meets : PassesWith (Passing d) h m now route
 
 -- the message, which has such a callback, went by a route that is one of its own
-pub record HasGone {D : Type 0} (Awaiting : D → Option ℕ → Type 0) (Passing : D → ℕ → List Entry → List Act → Type 0) (d : D) (h : Holding) (m : Node)
+pub record IsRouted {D : Type 0} (Awaiting : D → Option ℕ → Type 0) (Passing : D → ℕ → List Entry → List Act → Type 0) (d : D) (h : Holding) (m : Node)
     (now : ℕ) (by : Option ℕ) (route : Route) : Type 0 where
   pub is_route : IsRouteOf by route
   pub routed : HasRouted Awaiting Passing d h m now route

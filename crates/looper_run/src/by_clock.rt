@@ -3,9 +3,9 @@ ghost use Rattle.std.specs.Prelude.{◌≡◌, false, map, None, OnOk, IfOk, IfE
 ghost use Rattle.looper_run.specs.Asked.{Listen, with_asked, AsksByLoop};
 ghost use Rattle.looper_run.specs.Carried.{CarriesOver, KeepsLooper, unasked};
 ghost use Rattle.looper_run.specs.Ready.{RestsBetween, ServesBetween, MayRun};
-ghost use Rattle.looper_run.specs.Going.{MayLoop, ComesBy};
+ghost use Rattle.looper_run.specs.Going.{MayLoop, GoesThrough};
 ghost use Rattle.looper_run.specs.Loops.{IsStill, HasPaced, pace_of, UnlessHalted, IsClosed, IsLoop, LoopBy, is_over, UnlessLost, LoopsOrGoes, StepsOrGoes};
-ghost use Rattle.looper_run.specs.Loops.{IsLoopOrGoes, UnlessLostThen, is_over_then, is_spent, one_less, IsFound, Pauses, loop_of};
+ghost use Rattle.looper_run.specs.Loops.{IsLoopOrGoes, UnlessLostThen, is_over_then, is_spent, one_less, AnswersWait, Pauses, loop_of};
 
 use crate::dispatcher::Dispatcher;
 use crate::looper::Looper;
@@ -87,7 +87,7 @@ impl Pause {
 
 // What a wait was answered: the answer of a look, or a pause.
 fn answer_of<P: Payload>(waited: Waited<PoolClaim<P>>) -> Result<Nexted<PoolClaim<P>>, Pause>
-    ensures answer { IfOk result (IsFound waited) }
+    ensures answer { IfOk result (AnswersWait waited) }
     ensures pause { IfErr result (Pauses waited) }
 {
     match waited {
@@ -189,7 +189,7 @@ impl<E: Recorder, P: Payload> Looper<E, P> {
         most: Option<u64>,
     ) -> Option<Loop>
         requires may { MayLoop D.Serves D.Awaits D.Meets d.old queue.now pool.now self.old }
-        ensures comes { ComesBy D.Serves D.origin D.nudges unasked D.Awaits D.Meets IsStill (UnlessLostThen result)
+        ensures comes { GoesThrough D.Serves D.origin D.nudges unasked D.Awaits D.Meets IsStill (UnlessLostThen result)
             d.old d.new self.old self.new (is_over_then result) }
         ensures loops { LoopsOrGoes (C.shows by.now.clock.now) by.now.start by.now.cap queue.now.constants.setting self.old.held self.new.held result }
         ensures steps { IsLoopOrGoes (AsksByLoop (D.asked d.old) (D.asked d.new))
@@ -214,7 +214,7 @@ impl<E: Recorder, P: Payload> Looper<E, P> {
         most: Option<u64>,
     ) -> Option<Loop>
         requires may { MayLoop D.Serves D.Awaits D.Meets d.old queue.now pool.now self.old }
-        ensures comes { ComesBy D.Serves D.origin D.nudges unasked D.Awaits D.Meets IsStill (UnlessLostThen result)
+        ensures comes { GoesThrough D.Serves D.origin D.nudges unasked D.Awaits D.Meets IsStill (UnlessLostThen result)
             d.old d.new self.old self.new (is_over_then result) }
         ensures loops { LoopsOrGoes (C.shows by.now.clock.now) by.now.start by.now.cap queue.now.constants.setting self.old.held self.new.held result }
         ensures steps { StepsOrGoes (λ more. D.asked d.new ≡ with_asked (D.asked d.old) (map Listen more))
@@ -255,7 +255,8 @@ impl<E: Recorder, P: Payload> Looper<E, P> {
         by: &ByClock<C>,
     ) -> Pace
         requires may { MayLoop D.Serves D.Awaits D.Meets d.old queue.now pool.now self.old }
-        ensures comes { ComesBy D.Serves D.origin D.nudges D.asked D.Awaits D.Meets IsStill (UnlessHalted result) d.old d.new self.old self.new self.old.ended }
+        ensures comes { GoesThrough D.Serves D.origin D.nudges D.asked D.Awaits D.Meets IsStill (UnlessHalted result)
+            d.old d.new self.old self.new self.old.ended }
         ensures paced { HasPaced (C.shows by.now.clock.now) by.now.start by.now.cap self.old self.new result }
     {
         let waited = self

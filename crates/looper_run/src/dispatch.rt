@@ -4,8 +4,8 @@ ghost use Rattle.message_slot.specs.Fields.{callback_of};
 ghost use Rattle.message_pool.specs.Values.{without_value};
 ghost use Rattle.looper_run.specs.Holding.{held};
 ghost use Rattle.looper_run.specs.Carried.{KeepsLent};
-ghost use Rattle.looper_run.specs.Ready.{RestsBetween, HasToDispatch, HasToRoute, HasGone};
-ghost use Rattle.looper_run.specs.Going.{MayDispatch};
+ghost use Rattle.looper_run.specs.Ready.{RestsBetween, HasToDispatch, HasToRoute, IsRouted};
+ghost use Rattle.looper_run.specs.Going.{TookOfPool};
 ghost use Rattle.looper_run.specs.Tests.{IsSameLooper, IsLent};
 ghost use Rattle.looper_run.specs.Told.{IsTold, Dispatches, GivesBack};
 
@@ -35,7 +35,7 @@ fn offer<D: Dispatcher>(
 ) -> Option<Route>
     requires ready { HasToRoute D.Serves D.Awaits D.Took D.Meets d.old (held own.old) m.now now None }
     ensures keeps { KeepsLent D.Serves D.origin D.nudges D.asked IsLent d.old d.new own.old own.new }
-    ensures gone { IfSome result (HasGone D.Awaits D.Meets d.new (held own.new) m.now now None) }
+    ensures gone { IfSome result (IsRouted D.Awaits D.Meets d.new (held own.new) m.now now None) }
 {
     match d.intercept(own, m, now) {
         Did::NoMemory => None,
@@ -56,7 +56,7 @@ fn route<D: Dispatcher>(
 ) -> Option<Route>
     requires ready { HasToRoute D.Serves D.Awaits D.Took D.Meets d.old (held own.old) m.now now (callback_of m.now.item) }
     ensures keeps { KeepsLent D.Serves D.origin D.nudges D.asked IsLent d.old d.new own.old own.new }
-    ensures gone { IfSome result (HasGone D.Awaits D.Meets d.new (held own.new) m.now now (callback_of m.now.item)) }
+    ensures gone { IfSome result (IsRouted D.Awaits D.Meets d.new (held own.new) m.now now (callback_of m.now.item)) }
 {
     match m.callback() {
         Some(id) => match d.run_callback(own, id, m, now) {
@@ -98,7 +98,7 @@ pub(crate) fn dispatch<D: Dispatcher>(
     now: u64,
     mut node: PoolNode<D::Value>,
 ) -> Result<(), NoMemory>
-    requires may { MayDispatch D.Serves D.Awaits D.Meets d.old pool.now (held own.old) number node now }
+    requires may { TookOfPool D.Serves D.Awaits D.Meets d.old pool.now (held own.old) number node now }
     ensures keeps { KeepsLent D.Serves D.origin D.nudges D.asked IsSameLooper d.old d.new own.old own.new }
     ensures done { OnOk result (Dispatches (held own.old) (held own.new) node now) }
     ensures given_up { OnErr result (GivesBack (held own.old) (held own.new) node) }

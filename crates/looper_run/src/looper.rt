@@ -7,7 +7,7 @@ ghost use Rattle.looper_run.specs.Holding.{IsBeside};
 ghost use Rattle.looper_run.specs.Asked.{with_asked, asked_by_round};
 ghost use Rattle.looper_run.specs.Carried.{KeepsLooper, unasked};
 ghost use Rattle.looper_run.specs.Ready.{RestsBetween, ServesBetween, MayRun};
-ghost use Rattle.looper_run.specs.Going.{MayGoOn, ComesBy};
+ghost use Rattle.looper_run.specs.Going.{MayGoOn, GoesThrough};
 ghost use Rattle.looper_run.specs.Tests.{IsSameLooper};
 ghost use Rattle.looper_run.specs.Looks.{IsBegun, DrainBy, IsRound};
 ghost use Rattle.looper_run.specs.Round.{RoundBy, UnlessWanting, is_ended};
@@ -162,7 +162,8 @@ impl<E: Recorder, P: Payload> Looper<E, P> {
         now: u64,
     ) -> Result<(), NoMemory>
         requires ready { ServesBetween D.Serves D.Awaits D.Meets d.old self.old.held }
-        ensures comes { ComesBy D.Serves D.origin D.nudges unasked D.Awaits D.Meets IsSameLooper (OnOk result) d.old d.new self.old self.new self.old.ended }
+        ensures comes { GoesThrough D.Serves D.origin D.nudges unasked D.Awaits D.Meets IsSameLooper (OnOk result)
+            d.old d.new self.old self.new self.old.ended }
         ensures begun { IsBegun (λ heard. OnOk result (D.asked d.new ≡ with_asked (D.asked d.old) (asked_by_round now heard))) self.old self.new }
     {
         let mut own = Own {
@@ -187,7 +188,7 @@ impl<E: Recorder, P: Payload> Looper<E, P> {
         now: u64,
     ) -> Round
         requires may { MayGoOn D.Serves D.Awaits D.Meets d.old queue.now pool.now self.old }
-        ensures comes { ComesBy D.Serves D.origin D.nudges D.asked D.Awaits D.Meets IsSameLooper (UnlessWanting result)
+        ensures comes { GoesThrough D.Serves D.origin D.nudges D.asked D.Awaits D.Meets IsSameLooper (UnlessWanting result)
             d.old d.new self.old self.new (is_ended result) }
         ensures round { RoundBy queue.now.constants.setting now self.old.held self.new.held result }
         ensures looks { DrainBy now self.old self.new result }

@@ -3,7 +3,7 @@ ghost use Rattle.std.specs.Prelude.{◌≡◌, ℕ, All};
 ghost use Rattle.message_pool.specs.Obtain.{IsNodeOf};
 ghost use Rattle.shared_queue.specs.Calls.{NextedBy};
 ghost use Rattle.looper_run.specs.Holding.{Sender};
-ghost use Rattle.looper_run.specs.Going.{MayGoOn, MayAct, ComesBy};
+ghost use Rattle.looper_run.specs.Going.{MayGoOn, MayAct, GoesThrough};
 ghost use Rattle.looper_run.specs.Tests.{IsSameLooper};
 ghost use Rattle.looper_run.specs.Told.{AreRecycled};
 ghost use Rattle.looper_run.specs.Looks.{StepBy, WaitsAsTold, by_poster};
@@ -64,7 +64,7 @@ impl<E: Recorder, P: Payload> Looper<E, P> {
         now: u64,
     ) -> Step
         requires may { MayGoOn D.Serves D.Awaits D.Meets d.old queue.now pool.now self.old }
-        ensures comes { ComesBy D.Serves D.origin D.nudges D.asked D.Awaits D.Meets IsSameLooper (UnlessStopped result)
+        ensures comes { GoesThrough D.Serves D.origin D.nudges D.asked D.Awaits D.Meets IsSameLooper (UnlessStopped result)
             d.old d.new self.old self.new self.old.ended }
         ensures step { StepBy now self.old self.new result }
     {
@@ -82,7 +82,7 @@ impl<E: Recorder, P: Payload> Looper<E, P> {
         answer: Nexted<PoolClaim<P>>,
     ) -> Step
         requires may { MayAct D.Serves D.Awaits D.Meets d.old pool.now self.old answer }
-        ensures comes { ComesBy D.Serves D.origin D.nudges D.asked D.Awaits D.Meets IsSameLooper (UnlessStopped result)
+        ensures comes { GoesThrough D.Serves D.origin D.nudges D.asked D.Awaits D.Meets IsSameLooper (UnlessStopped result)
             d.old d.new self.old self.new self.old.ended }
         ensures step { (p : Sender) (now : ℕ) → NextedBy p self.old.held.poster now self.old.idle_owed answer
             → StepBy now (by_poster self.old p) self.new result }

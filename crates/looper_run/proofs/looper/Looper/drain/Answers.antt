@@ -1,6 +1,6 @@
 use Rattle.std.proofs.Common.{sym, subst, refl, true, ◌∙◌, arith}
 use Rattle.looper_run.specs.Holding.{Looping}
-use Rattle.looper_run.specs.Going.{ComesBy}
+use Rattle.looper_run.specs.Going.{GoesThrough}
 use Rattle.looper_run.specs.Tests.{IsSameLooper}
 use Rattle.looper_run.specs.Looks.{HasEnded}
 use Rattle.looper_run.specs.Round.{RoundBy, UnlessWanting}
@@ -89,7 +89,7 @@ pub returns-in-Ends-clause-comes : goal.returns-in-Ends-clause-comes
 returns-in-Ends-clause-comes g c =
     let D = g.D.Dispatcher in
     let here = c.loop.invariant in
-    subst (λ (l : Looping). ComesBy D.Serves D.origin D.nudges D.asked D.Awaits D.Meets IsSameLooper (λ P. UnlessWanting (Ended c.loop.dispatched) P) c.args.d.now c.step.new.d c.args.self.now (record { held = l.held; idle_owed = l.idle_owed; ended = true }) true) (sym c.self.view_is)
+    subst (λ (l : Looping). GoesThrough D.Serves D.origin D.nudges D.asked D.Awaits D.Meets IsSameLooper (λ P. UnlessWanting (Ended c.loop.dispatched) P) c.args.d.now c.step.new.d c.args.self.now (record { held = l.held; idle_owed = l.idle_owed; ended = true }) true) (sym c.self.view_is)
     (record {
       keeps = keeps_then D.Serves D.origin D.nudges D.asked IsSameLooper same_then c.args.d.now c.loop.d c.step.new.d c.args.self.now.held c.loop.self.held c.step.new.self.held here.keeps c.step.ensures.comes.keeps;
       rests = c.in-Ends.ensures.comes.rests;

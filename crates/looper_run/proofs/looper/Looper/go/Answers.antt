@@ -4,7 +4,7 @@ use Rattle.looper_run.specs.Asked.{Asked, Listening, Listen, with_asked, any_hea
 use Rattle.looper_run.specs.Carried.{unasked}
 use Rattle.looper_run.specs.Ready.{RestsBetween}
 use Rattle.looper_run.specs.Loops.{IsStill, UnlessLost, is_over, HasStepped, LoopBy, StepsBy, Stepped, IsClosed}
-use Rattle.looper_run.specs.Going.{ComesBy}
+use Rattle.looper_run.specs.Going.{GoesThrough}
 use Rattle.looper_run.specs.declared.step.Step.TheVariants.{Ends}
 use Rattle.looper_run.specs.declared.by_clock.Loop.{Loop}
 use Rattle.looper_run.specs.declared.by_clock.Loop.TheVariants.{Ended}
@@ -50,7 +50,7 @@ returns-in-Ends-clause-comes g c =
     let D = g.D.Dispatcher in
     let here = c.loop.invariant in
     let all = keeps_then D.Serves D.origin D.nudges D.asked IsStill still_then c.args.d.now c.loop.d c.pace.new.d c.args.self.now.held c.loop.self.held c.pace.new.self.held here.keeps c.pace.ensures.comes.keeps in
-    subst (λ (l : Looping). ComesBy D.Serves D.origin D.nudges unasked D.Awaits D.Meets IsStill (λ P. UnlessLost Ended P) c.args.d.now c.pace.new.d c.args.self.now (record { held = l.held; idle_owed = l.idle_owed; ended = true }) true) (sym c.self.view_is)
+    subst (λ (l : Looping). GoesThrough D.Serves D.origin D.nudges unasked D.Awaits D.Meets IsStill (λ P. UnlessLost Ended P) c.args.d.now c.pace.new.d c.args.self.now (record { held = l.held; idle_owed = l.idle_owed; ended = true }) true) (sym c.self.view_is)
     (record {
       keeps = keeps_unasked D.Serves D.origin D.nudges D.asked IsStill IsStill c.args.d.now c.pace.new.d c.args.self.now.held c.pace.new.self.held all.same all;
       rests = c.in-Ends.ensures.comes.rests;
@@ -107,7 +107,7 @@ returns-in-Pauses-clause-comes g c =
     let all = keeps_then D.Serves D.origin D.nudges D.asked IsStill still_then c.args.d.now c.loop.d c.pace.new.d c.args.self.now.held c.loop.self.held c.pace.new.self.held here.keeps c.pace.ensures.comes.keeps in
     let P : Type 0 = RestsBetween D.Awaits D.Meets c.close.new.d c.close.new.self.held in
     let rests = unless_pauses P c.in-Pauses.pause (rests_closed D.Serves D.origin D.nudges D.Awaits D.Meets _ c.pace.new.d c.close.new.d c.pace.new.self c.close.new.self c.close.ensures.closed c.close.ensures.carries c.in-Pauses.ensures.comes.rests) in
-    subst (λ (r : Loop). ComesBy D.Serves D.origin D.nudges unasked D.Awaits D.Meets IsStill (λ Q. UnlessLost r Q) c.args.d.now c.close.new.d c.args.self.now c.close.new.self (is_over r)) (sym c.as_loop.ensures) (record {
+    subst (λ (r : Loop). GoesThrough D.Serves D.origin D.nudges unasked D.Awaits D.Meets IsStill (λ Q. UnlessLost r Q) c.args.d.now c.close.new.d c.args.self.now c.close.new.self (is_over r)) (sym c.as_loop.ensures) (record {
       keeps = keeps_then_closed D.Serves D.origin D.nudges D.Awaits D.Meets _ c.pace.new.d c.close.new.d c.pace.new.self c.close.new.self c.close.ensures.closed c.close.ensures.carries D.asked c.args.d.now c.args.self.now.held all;
       rests = rests;
       ended = c.close.ensures.ended ∙ (c.pace.ensures.comes.ended ∙ (here.may.on.looper.going ∙ pause_goes_on c.in-Pauses.pause));
