@@ -3,3 +3,4 @@ pub mod HallEnds
 pub mod HallFrames
 pub mod Carried
 pub mod TimelyRecords
+pub mod Reported

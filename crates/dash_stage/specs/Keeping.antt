@@ -1,11 +1,12 @@
 -- What the records that are kept of a stage tell of its run.
-use Rattle.std.specs.Prelude.{◌≡◌, List, map, true}
+use Rattle.std.specs.Prelude.{◌≡◌, ℕ, List, map, true}
 use Rattle.std.specs.List.{AllByRecursion}
 use Rattle.loop_model.specs.declared.journal.Journal.{Journal}
 use Rattle.loop_model.specs.declared.record.QueueRecord.{QueueRecord}
 use Rattle.frame_phases.specs.declared.entry.FrameRecord.{FrameRecord}
 use Rattle.dash_script.specs.declared.script.Script.{Script}
 use Rattle.run_model.specs.Planned.{history_of, controller}
+use Rattle.run_model.specs.declared.report.Report.{Report}
 use Rattle.run_model.specs.Moments.{Mode, in_lockstep}
 use Rattle.run_model.specs.Control.{moves, AreMovedTogether, AreBlocksFirst, AreBlocksReached}
 use Rattle.run_model.specs.Run.{IsAsPlanned, IsControlled, IsFrameRun, IsTimely, main_ends_halted}
@@ -46,6 +47,12 @@ pub record AreKeptOf (s : Script) (st : Stage) (qs : List QueueRecord) (js : Lis
   pub first : HasEndedInLockstep s st → AreBlocksFirst s qs
   pub reached : HasEndedInLockstep s st → AreBlocksReached s qs
   pub moves : HasEndedInLockstep s st → AreMovedTogether s (map (λ (q : QueueRecord). moves (controller s) (history_of q)) qs)
+
+-- the report holds what is kept of this stage, whose clock was read so at the start
+pub record HoldsKept (s : Script) (st : Stage) (began : ℕ) (r : Report) : Type 0 where
+  pub script : r.script ≡ s
+  pub start : r.start ≡ began
+  pub kept : AreKeptOf s st r.queues r.journals r.frames
 
 -- the loopers left these journals, and what they worked with behind the threads' kits, of which it tells what is known of the loopers
 pub record GiveBack (s : Script) (hall : Hall) (ls : List StageLooper) (before after : List Kit) (js : List Journal) : Type 0 where

@@ -15,7 +15,7 @@ ghost use Rattle.dash_stage.specs.Outcomes.{StagesByClock};
 ghost use Rattle.dash_stage.specs.Stages.{IsStageIn, OthersHaveEnded};
 
 use crate::control::Controller;
-use crate::kept::report_by_clock;
+use crate::kept::report;
 use crate::means::Means;
 use crate::opening::set_up;
 use crate::run::Ran;
@@ -52,7 +52,7 @@ pub fn run_free<R: Threads + Wait + time::Clock + Sync, C: Clock + Sync, G: Gate
         Ok(stage) => stage,
         Err(NoMemory) => return Ran::NoMemory,
     };
-    report_by_clock(alloc, script, stage, timer.start)
+    report(alloc, script, stage, timer.start)
 }
 
 /// The stage after the run.

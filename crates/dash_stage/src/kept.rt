@@ -1,10 +1,8 @@
 //! The report of a run.
-ghost use Rattle.std.specs.Prelude.{◌≡◌, ℕ, Bool, true, IfOk};
-ghost use Rattle.run_model.specs.ByClock.{in_free_mode};
+ghost use Rattle.std.specs.Prelude.{IfOk};
 ghost use Rattle.dash_hall.specs.Kits.{IsHall};
 ghost use Rattle.dash_stage.specs.Keeping.{AreKeptOf, GiveKits, GiveBack};
-ghost use Rattle.dash_stage.specs.Outcomes.{Stages, StagesByClock};
-ghost use Rattle.dash_stage.specs.RunEnds.{HasEndedByClock, HasEndedInLockstep};
+ghost use Rattle.dash_stage.specs.Outcomes.{Reports};
 ghost use Rattle.dash_stage.specs.Stages.{CanBeKept, AreThreads, AreLoopers, AreThreadKits};
 
 use crate::control::Controller;
@@ -20,27 +18,10 @@ use loop_model::{Journal, NoMemory, QueueRecord, Sequence};
 use run_model::Report;
 use std::alloc::Global;
 
-/// The report of a run that left this.
-pub(crate) fn report(alloc: Global, script: Script, stage: Stage) -> Ran
-    requires { HasEndedInLockstep script stage }
-    ensures { Stages script result }
-{
-    match kept(alloc, &script, stage) {
-        Ok((queues, journals, frames)) => Ran::Ok(Report {
-            script,
-            queues: Sequence::from_vec(queues),
-            journals: Sequence::from_vec(journals),
-            frames: Sequence::from_vec(frames),
-            start: 0,
-        }),
-        Err(NoMemory) => Ran::NoMemory,
-    }
-}
-
-/// The report of a run by a clock that left this; the clock was read so at its start.
-pub(crate) fn report_by_clock(alloc: Global, script: Script, stage: Stage, start: u64) -> Ran
+/// The report of a run that left this; the clock was read so at its start, in lockstep 0.
+pub(crate) fn report(alloc: Global, script: Script, stage: Stage, start: u64) -> Ran
     requires { CanBeKept script stage }
-    ensures { (shows : ℕ → Bool) → shows start ≡ true → HasEndedByClock (in_free_mode shows start) script stage → StagesByClock shows script result }
+    ensures { Reports script stage start result }
 {
     match kept(alloc, &script, stage) {
         Ok((queues, journals, frames)) => Ran::Ok(Report {

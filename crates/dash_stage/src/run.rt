@@ -43,7 +43,7 @@ pub fn run_script<R: Threads + Wait + Sync, G: Gate + Sync>(
         Ok(stage) => stage,
         Err(NoMemory) => return Ran::NoMemory,
     };
-    report(alloc, script, stage)
+    report(alloc, script, stage, 0)
 }
 
 /// The stage after the run.
