@@ -31,12 +31,13 @@ use Rattle.choreographer.specs.Calls.{latest}
 use Rattle.choreographer.specs.declared.host.HostSent.TheVariants as host
 use Rattle.choreographer.specs.declared.hosted.Pulse.{Pulse}
 use Rattle.choreographer.specs.Client.{Run}
-use Rattle.run_model.specs.Planned.{Makes, AreFor, entries_by, looper_of, frame_message, frame_due}
+use Rattle.run_model.specs.Planned.{Makes, AreFor, entries_by, looper_of, frame_message, frame_due, sender_count}
 use Rattle.run_model.specs.AskedSoFar.{tokens_in}
 use Rattle.run_model.specs.Control.{Timing, At, InBlock, NotBefore}
-use Rattle.run_model.specs.Loopers.{Looper, Sent, first_looper, starts_frame, delivered, fires, reaction, Lead, IsSent, pulse_stamp, has_frames}
+use Rattle.run_model.specs.Loopers.{Looper, Sent, first_looper, starts_frame, delivered, fires, reaction, Lead, IsSent, pulse_stamp, has_frames, Gauge}
 use Rattle.run_model.specs.Parts.{sent_on, asks_to_run}
 use Rattle.run_model.specs.FrameRecords.{millis_up, FrameAt, frame_ids, is_frame_from, has_stamp, frame_moments, place_after, are_run_then, are_whole, FrameAsk, Posts, Removes, Runs, as_told}
+use Rattle.run_model.specs.FrameRecords.{nanos_of}
 use Rattle.dash_hall.specs.declared.kit.Kit.{Kit}
 use Rattle.dash_loopers.specs.declared.view_root.Gauge.{Gauge as ViewGauge}
 use Rattle.dash_loopers.specs.declared.view_root.Painted.{Painted}

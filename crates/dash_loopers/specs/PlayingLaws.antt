@@ -19,9 +19,9 @@ use Rattle.loop_model.specs.declared.journal.Act.{Act}
 use Rattle.loop_model.specs.declared.journal.Act.TheVariants.{Dispatch, Idle, Event, Vsync, Paint}
 use Rattle.dash_script.specs.declared.script.Script.{Script}
 use Rattle.looper_run.specs.Acts.{IsQuiet}
-use Rattle.run_model.specs.Planned.{entries_by}
+use Rattle.run_model.specs.Planned.{entries_by, sender_count}
 use Rattle.run_model.specs.Control.{Timing, At, InBlock, NotBefore}
-use Rattle.run_model.specs.FrameRecords.{FrameAt}
+use Rattle.run_model.specs.FrameRecords.{FrameAt, nanos_of}
 use Rattle.run_model.specs.Loopers.{Looper, first_looper, after_act, pulse_stamp}
 use Rattle.choreographer.specs.Known.{Known as Pass}
 use Rattle.choreographer.proofs.InTime.{later_then}

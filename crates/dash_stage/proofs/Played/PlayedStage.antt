@@ -15,7 +15,7 @@ use Rattle.dash_script.specs.declared.script.Script.{Script}
 use Rattle.frame_phases.specs.declared.entry.FrameEntry.{FrameEntry}
 use Rattle.loop_model.proofs.Prefixes.{prefix_trans, prefix_length}
 use Rattle.looper_run.specs.Holding.{Sender}
-use Rattle.run_model.specs.Planned.{AreFor, entries_by, looper_sender}
+use Rattle.run_model.specs.Planned.{AreFor, entries_by, looper_sender, sender_count}
 use Rattle.run_model.specs.AskedSoFar.{tokens_in}
 use Rattle.run_model.specs.Loopers.{Looper, first_looper, Lead, IsSent}
 use Rattle.run_model.specs.Parts.{sent_on}
@@ -45,7 +45,7 @@ use Rattle.dash_stage.proofs.Stages.StageTurns.{for_count}
 use Rattle.dash_stage.proofs.Stages.StageWhole.{as_many, looper_entries, looper_sees, looper_made_none, sound_grown, none_behind}
 use Rattle.dash_stage.proofs.Stages.Timely.{timely_others}
 use Rattle.dash_stage.proofs.Played.RoundTimes.{befores_called_of_others}
-use Rattle.run_model.specs.FrameRecords.{as_told, asks_in}
+use Rattle.run_model.specs.FrameRecords.{as_told, asks_in, nanos_of}
 
 -- ---- one looper
 
