@@ -30,7 +30,7 @@ use Rattle.run_model.proofs.Growth.{Lead-entries}
 use Rattle.dash_loopers.specs.declared.player.Parts.{Parts}
 use Rattle.dash_loopers.specs.declared.looper.StageLooper.{StageLooper}
 use Rattle.dash_loopers.specs.Played.{calls_in, IsPlayed, StandsBy, Stands, IsTimedBy, HasLooked, IsPostedBy, GoesOnTo, ComesTo, IsPlaying, IsPlayingBy, HasRunAll}
-use Rattle.dash_loopers.specs.Loopers.{IsSoundOn, setting_for}
+use Rattle.dash_loopers.specs.Loopers.{IsSoundOn, setting_for, is_disposal}
 
 -- ---- the calls of a sender, as entries are added
 
