@@ -36,7 +36,8 @@ use Rattle.run_model.specs.AskedSoFar.{tokens_in}
 use Rattle.run_model.specs.Control.{Timing, At, InBlock, NotBefore}
 use Rattle.run_model.specs.Loopers.{Looper, Sent, first_looper, starts_frame, delivered, fires, reaction, Lead, IsSent, pulse_stamp, has_frames, Gauge}
 use Rattle.run_model.specs.Parts.{sent_on, asks_to_run}
-use Rattle.run_model.specs.FrameRecords.{millis_up, FrameAt, frame_ids, is_frame_from, has_stamp, frame_moments, place_after, are_run_then, are_whole, FrameAsk, Posts, Removes, Runs, as_told}
+use Rattle.run_model.specs.FrameRecords.{millis_up, FrameAt, frame_ids, is_frame_from, has_stamp, frame_moments, place_after, are_run_then, are_whole}
+use Rattle.run_model.specs.FrameRecords.{FrameAsk, Posts, Removes, Runs, as_told}
 use Rattle.run_model.specs.FrameRecords.{nanos_of}
 use Rattle.dash_hall.specs.declared.kit.Kit.{Kit}
 use Rattle.dash_loopers.specs.declared.view_root.Gauge.{Gauge as ViewGauge}
@@ -188,10 +189,11 @@ ComesLater before came = (stamp : ℕ) (awaits : Bool) → HasLatest before stam
 abbrev pub IsUpTo : ℕ → Pass → Type 0
 IsUpTo t p = has_later t p.view.seen ≡ false
 
--- where the test is of this moment alone, and the pass that alone delivers pulses had seen no later one, it has seen none; and if a frame was to begin and is to
--- begin no more, one began
+-- where the test is of this moment alone, and the pass that alone delivers pulses had seen no later one, it has seen none; and if a frame was to begin and
+-- is to begin no more, one began
 abbrev pub RunsInTime : (ℕ → Bool) → Pass → Pass → Option ℕ → Type 0
-RunsInTime is_moment before after frame = (t stamp : ℕ) (awaits : Bool) → ((n : ℕ) → is_moment n ≡ true → n ≡ t) → HasLatest before stamp awaits → IsUpTo t before
+RunsInTime is_moment before after frame =
+    (t stamp : ℕ) (awaits : Bool) → ((n : ℕ) → is_moment n ≡ true → n ≡ t) → HasLatest before stamp awaits → IsUpTo t before
     → IsUpTo t after × (awaits ≡ true → HasLatest after stamp false → is_some frame ≡ true)
 
 -- a pulse of this period came, later than the latest, whose frame was not to begin any more, and is the latest now; or none came. The looper awaits its frame

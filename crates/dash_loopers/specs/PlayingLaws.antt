@@ -1,6 +1,7 @@
 -- What a looper has come to stays so by what it doesn't do itself: another sender's entry, its look that ends the queue, an idle
 -- handler or an event. These are the laws of its code, with their proofs.
-use Rattle.std.proofs.Common.{◌≡◌, ℕ, ◌≤◌, max, Bool, true, false, List, [], ◌∷◌, ◌++◌, length, None, refl, sym, ap, ◌∙◌, subst, arith, append_assoc, eq-eqb, ne_eqb}
+use Rattle.std.proofs.Common.{◌≡◌, ℕ, ◌≤◌, max, Bool, true, false, List, [], ◌∷◌, ◌++◌, length, None, refl, sym, ap, ◌∙◌, subst, arith}
+use Rattle.std.proofs.Common.{append_assoc, eq-eqb, ne_eqb}
 use Rattle.std.specs.Prelude.{◌==◌, not, filter, fold}
 use Rattle.std.specs.List.{filter_map, cons_option}
 use Rattle.std.proofs.lemmas.List.{append-nil}
@@ -29,7 +30,8 @@ use Rattle.run_model.proofs.RunLaws.{Lead-snoc}
 use Rattle.run_model.proofs.Growth.{Lead-entries}
 use Rattle.dash_loopers.specs.declared.player.Parts.{Parts}
 use Rattle.dash_loopers.specs.declared.looper.StageLooper.{StageLooper}
-use Rattle.dash_loopers.specs.Played.{calls_in, IsPlayed, StandsBy, Stands, IsTimedBy, HasLooked, IsPostedBy, GoesOnTo, ComesTo, IsPlaying, IsPlayingBy, HasRunAll}
+use Rattle.dash_loopers.specs.Played.{calls_in, IsPlayed, StandsBy, Stands, IsTimedBy, HasLooked, IsPostedBy, GoesOnTo, ComesTo, IsPlaying, IsPlayingBy}
+use Rattle.dash_loopers.specs.Played.{HasRunAll}
 use Rattle.dash_loopers.specs.Loopers.{IsSoundOn, setting_for, is_disposal}
 
 -- ---- the calls of a sender, as entries are added
@@ -79,20 +81,22 @@ pub nanos_rise : (a b : ℕ) → a ≤ b → nanos_of a ≤ nanos_of b
 nanos_rise a b le = omega (arith, le)
 
 -- more entries
-pub runs_later : (s : Script) (q : ℕ) (es more : List Entry) (acts : List Act) (p : Pass) (awaits : Bool) (frames : List FrameAt) → (IsSoundOn s q es → HasRunAll s es acts p awaits frames)
-    → IsSoundOn s q (es ++ more) → HasRunAll s (es ++ more) acts p awaits frames
+pub runs_later : (s : Script) (q : ℕ) (es more : List Entry) (acts : List Act) (p : Pass) (awaits : Bool) (frames : List FrameAt)
+    → (IsSoundOn s q es → HasRunAll s es acts p awaits frames) → IsSoundOn s q (es ++ more) → HasRunAll s (es ++ more) acts p awaits frames
 runs_later s q es more acts p awaits frames ran sound =
     let was = ran (sound_front s q es more sound) in
     let b : Base = empty_base (sender_count s) in
+    let rises = nanos_rise (clock b es) (clock b (es ++ more)) (clock_front b es more) in
     record {
-      up_to = later_then (nanos_of (clock b es)) (nanos_of (clock b (es ++ more))) p.view.seen (nanos_rise (clock b es) (clock b (es ++ more)) (clock_front b es more)) was.up_to;
+      up_to = later_then (nanos_of (clock b es)) (nanos_of (clock b (es ++ more))) p.view.seen rises was.up_to;
       pulses = was.pulses;
     }
 
 -- an act that is no pulse
 pub no_pulse : (acts : List Act) (x : Act) → pulse_stamp x ≡ None → length (filter_map pulse_stamp (acts ++ x ∷ [])) ≡ length (filter_map pulse_stamp acts)
 no_pulse acts x none =
-    ap length (filter_map-append pulse_stamp acts (x ∷ []) ∙ (ap (λ o. filter_map pulse_stamp acts ++ cons_option o []) none ∙ append-nil (filter_map pulse_stamp acts)))
+    ap length (filter_map-append pulse_stamp acts (x ∷ [])
+    ∙ (ap (λ o. filter_map pulse_stamp acts ++ cons_option o []) none ∙ append-nil (filter_map pulse_stamp acts)))
 
 -- ---- where it stands, as entries and acts are added
 

@@ -1,5 +1,6 @@
 -- How C sees what a call answers.
-use Rattle.std.specs.Prelude.{◌≡◌, ◌≢◌, ◌<◌, ◌/◌, ◌&&◌, ℕ, Bool, true, false, nat_lt, [], ◌∷◌, Option, Some, None, Result, Ok, Err, length, if◌then◌else◌, is_some}
+use Rattle.std.specs.Prelude.{◌≡◌, ◌≢◌, ◌<◌, ◌/◌, ◌&&◌, ℕ, Bool, true, false, nat_lt, [], ◌∷◌, Option, Some, None, Result, Ok, Err, length, if◌then◌else◌}
+use Rattle.std.specs.Prelude.{is_some}
 use Rattle.std.specs.List.{list_any}
 use Rattle.loop_model.specs.declared.memory.NoMemory.{NoMemory}
 use Rattle.frame_phases.specs.State.{Frames, past, scheduled_at, next_callback, scheduling, posted, removed, delivered, BeginsBy, TakesBy}

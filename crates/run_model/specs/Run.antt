@@ -19,7 +19,8 @@ use Rattle.dash_script.specs.Causes.{phase_count}
 use Rattle.run_model.specs.declared.report.Report.{Report}
 use Rattle.run_model.specs.Planned.{history_of, AreFor, entries_by, looper_sender, controller, sender_count, lines_of, labels_on, lines_on, times_on, IsPlanned}
 use Rattle.run_model.specs.Moments.{Mode, IfLockstep, in_lockstep, IfFree, AreOfClockAfter}
-use Rattle.run_model.specs.Control.{is_controlled, ends_halted, is_called_in_time, are_before_quit, befores, InBlock, are_on_time, each_behind, moves, AreMovedTogether, AreBlocksFirst, AreBlocksReached}
+use Rattle.run_model.specs.Control.{is_controlled, ends_halted, is_called_in_time, are_before_quit, befores, InBlock, are_on_time, each_behind, moves}
+use Rattle.run_model.specs.Control.{AreMovedTogether, AreBlocksFirst, AreBlocksReached}
 use Rattle.run_model.specs.Loopers.{Looper, Sent, first_looper, Lead, closing, IsSent, asked_then, has_frames}
 use Rattle.run_model.specs.FrameRecords.{are_run_then, are_whole, asks_in, AreAskedInTurn}
 
