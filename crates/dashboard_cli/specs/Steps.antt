@@ -1,5 +1,5 @@
 -- What the steps of the top call answer.
-use Rattle.std.specs.Prelude.{ℕ, List, Bool, ◌≡◌, ◌×◌, ◌+◌, ◌≤◌, length}
+use Rattle.std.specs.Prelude.{ℕ, List, Bool, ◌≡◌, ◌+◌, ◌≤◌, length}
 use Rattle.std.specs.Io.KnownBytes.{Consumes}
 use Rattle.dash_script.specs.Accepting.{IsText}
 use Rattle.run_model.specs.Run.{IsStaged}
