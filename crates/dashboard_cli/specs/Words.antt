@@ -31,13 +31,12 @@ IsSpelled (command.Make number) words = words ≡ codes "make" ∷ decimal numbe
 IsSpelled (command.MakeRun number) words = (words ≡ codes "make" ∷ decimal number ∷ codes "--run" ∷ [])
     ⊎ (words ≡ codes "make" ∷ codes "--run" ∷ decimal number ∷ [])
 
--- the number of the command is a u32
+-- the number of the command is a u32; the words are this command, and some command
 abbrev pub IsInRange : Command → Type 0
 IsInRange (command.Make number) = number < 2 ^ 32
 IsInRange (command.MakeRun number) = number < 2 ^ 32
 IsInRange command = Unit {0}
 
--- the words are this command; and some command
 pub record IsAsked (words : List (List ℕ)) (command : Command) : Type 0 where
   pub fits : IsInRange command
   pub spelled : IsSpelled command words

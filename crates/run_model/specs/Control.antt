@@ -56,20 +56,18 @@ are_controls main lockstep end quit (e ∷ es) =
     if is_advance e.call then lockstep && nat_le (moment_of e.call) end && are_controls main lockstep end quit es
     else is_empty es && is_closing main lockstep end e
 
--- the controller's entries are such, where another sender's quit may have been done, and each queue but main is disposed of once
+-- the controller's entries are such, where another sender's quit may have been done, and each queue but main is disposed of once; the last entry is the Halt
 unfoldable pub is_controlled : Bool → Bool → ℕ → ℕ → List Entry → Bool
 is_controlled main lockstep controller end es =
     are_controls main lockstep end (list_any (λ e. is_quit_done e.reply && not (e.sender == controller)) es) (entries_by controller es)
     && (main || count_by (λ e. is_disposed e.reply) es == 1)
 
--- the last entry is the Halt
 abbrev pub ends_halted : List Entry → Bool
 ends_halted [] = false
 ends_halted (e ∷ []) = is_halted e.reply
 ends_halted (e ∷ f ∷ es) = ends_halted (f ∷ es)
 
--- behind these entries the time moves past no message that may be dispatched, on a queue that isn't quitting; and a quit is the queue's first, and comes where
--- no such message is due
+-- the time moves past no message that may be dispatched, unless the queue is quitting; a quit is the queue's first, and comes where no such message is due
 abbrev pub is_none_before : ℕ → Option Item → Bool
 is_none_before time None = true
 is_none_before time (Some x) = nat_le time (when_of x)
@@ -186,8 +184,7 @@ is_reached time es = time == 0 || list_any (λ e. is_advance e.call && moment_of
 abbrev pub AreReached : List Block → List Entry → Type 0
 AreReached blocks es = AllByRecursion (λ (b : Block). is_reached b.time es ≡ true) blocks
 
--- on each queue each thread's call (a thread is a sender below this number) comes where only threads have called since the time was last moved, or behind the
--- queue's disposal
+-- on each queue threads (the senders below this number) call where only threads have since the time was last moved, or behind the queue's disposal
 unfoldable pub come_first : ℕ → List Entry → Bool
 come_first threads es =
     each_behind (λ past e. not (nat_lt e.sender threads) || (has_disposed (empty_base 0) past || is_fresh (λ x. nat_lt x.sender threads) past)) [] es

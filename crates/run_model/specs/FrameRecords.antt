@@ -43,8 +43,7 @@ abbrev pub has_stamp : List FrameEntry → Option ℕ → ℕ → Bool
 has_stamp fs None stamp = true
 has_stamp fs (Some place) stamp = option_map_or (begins_with stamp) (slice_get fs place) false
 
--- a frame that a dispatch ran: where it begins in the frame record, and the time of the dispatch; one frame more, where a dispatch runs one; and from where on
--- the next may begin
+-- a frame that a dispatch ran: where it begins in the record, and the dispatch's time; one more, where a dispatch runs one; and where the next may begin
 pub record FrameAt : Type 0 where
   pub place : ℕ
   pub now : ℕ

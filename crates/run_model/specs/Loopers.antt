@@ -146,11 +146,10 @@ reacted s now m a = record a {
   sent = a.sent ++ filter_map (λ (r, n). if fires m r n then Some (reaction s now r) else None) (zip s.rules a.fired);
 }
 
--- the message starts a frame of looper q
+-- the message starts a frame of looper q; and what its dispatch causes, where the frame that it runs, if any, runs callbacks of these identities
 abbrev pub starts_frame : ℕ → PostData → Bool
 starts_frame q m = not (is_some m.callback) && m.handler == frame_handler q && m.what == 0
 
--- what the dispatch of a message causes, where the frame that it runs, if any, runs callbacks of these identities
 abbrev pub delivered : Script → ℕ → ℕ → List ℕ → PostData → Looper → Looper
 delivered s q now ids m a =
     if is_some m.callback then a
@@ -212,12 +211,11 @@ abbrev pub Lead : Script → ℕ → List Entry → List FrameEntry → Looper �
 Lead s q es fs a [] b = a ≡ b
 Lead s q es fs a (x ∷ xs) b = (frame : Option ℕ) × (MayCome s q es fs frame a x × Lead s q es fs (after_act s q es fs frame a x) xs b)
 
--- the stamp of a pulse
+-- the stamp of a pulse; there are as many frames as pulses, but for one whose frame message isn't taken yet
 abbrev pub pulse_stamp : Act → Option ℕ
 pulse_stamp (Vsync stamp) = Some stamp
 pulse_stamp _ = None
 
--- there are as many frames as pulses, but for one whose frame message isn't taken yet
 abbrev pub has_frames : List Act → Looper → Bool
 has_frames acts a = length (filter_map pulse_stamp acts) == length a.frames + (if a.awaits then 1 else 0)
 

@@ -14,11 +14,10 @@ pub record Mode : Type 0 where
   -- its reading at the start
   pub start : ℕ
 
--- in lockstep no clock is read
+-- in lockstep no clock is read; this is so in lockstep, and this in free mode
 abbrev pub in_lockstep : Mode
 in_lockstep = record { lockstep = true; shows = λ reading. true; start = 0 }
 
--- this is so in lockstep; and in free mode
 abbrev pub IfLockstep : Mode → Type 0 → Type 0
 IfLockstep m P = MatchBool m.lockstep P (Unit {0})
 
