@@ -46,8 +46,8 @@ abbrev pub towards : ℕ → ℕ → ℕ → ℕ
 towards m n by = if nat_le m n then m + by else m - by
 
 -- the value of one key, moved towards that of the next by the part of the way between them that is behind, rounded down
-abbrev pub moved : ℕ → ℕ → Key → Key → ℕ
-moved duration p from to =
+abbrev pub value_between : ℕ → ℕ → Key → Key → ℕ
+value_between duration p from to =
     towards from.value to.value
     (distance from.value to.value * (1000 * p - from.at * duration) / ((to.at - from.at) * duration))
 
@@ -56,15 +56,15 @@ abbrev pub value_among : ℕ → ℕ → List Key → ℕ
 value_among duration p [] = 0
 value_among duration p (from ∷ []) = 0
 value_among duration p (from ∷ to ∷ ks) =
-    if is_around duration p from to then moved duration p from to else value_among duration p (to ∷ ks)
+    if is_around duration p from to then value_between duration p from to else value_among duration p (to ∷ ks)
 
 -- the value at a position
 abbrev pub value_at : Plan → ℕ → ℕ
 value_at plan p = if p == plan.duration then last_value plan.keys else value_among plan.duration p plan.keys
 
 -- what an animator answers at a time, after the times before
-abbrev pub answer : Plan → List ℕ → ℕ → Valued
-answer plan before time =
+abbrev pub animator_answer : Plan → List ℕ → ℕ → Valued
+animator_answer plan before time =
     if has_ended (end_of plan) before then Over
     else (if has_ended (end_of plan) (before ++ time ∷ []) then End (end_value plan)
     else Value (value_at plan (position plan (elapsed (before ++ time ∷ [])))))

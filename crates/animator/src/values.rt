@@ -1,7 +1,7 @@
 //! The animator.
 ghost use Rattle.std.specs.Prelude.{◌≡◌, ◌<◌, ◌≤◌, ◌*◌, ◌++◌, ◌∷◌, [], List, ℕ, All};
 ghost use Rattle.animator.specs.Plans.{IsKey, IsPlan};
-ghost use Rattle.animator.specs.Valuing.{answer, end_of, end_value, is_around, moved, position, value_among, value_at};
+ghost use Rattle.animator.specs.Valuing.{animator_answer, end_of, end_value, is_around, value_between, position, value_among, value_at};
 ghost use Rattle.animator.specs.Given.{WasGiven};
 
 use crate::keys::Key;
@@ -99,7 +99,7 @@ fn moved(duration: u64, position: u64, from: &Key, to: &Key) -> u32
     requires position { position ≤ duration }
     requires after { from.now.at * duration ≤ 1000 * position }
     requires before { 1000 * position < to.now.at * duration }
-    ensures { result ≡ moved duration position from.now to.now }
+    ensures { result ≡ value_between duration position from.now to.now }
 {
     let gone = 1000 * position - u64::from(from.at) * duration;
     let whole = u64::from(to.at - from.at) * duration;
@@ -163,7 +163,7 @@ impl Animator {
     /// milliseconds from the first frame time to the greatest. `End` comes at the first frame at which the delay and all ways have
     /// elapsed, and `Over` at each frame after it; before that comes `Value`. Takes no memory.
     pub fn on_frame(&mut self, time: u64) -> Valued
-        ensures answer { (times : List ℕ) → WasGiven self.old times → result ≡ answer self.old.plan times time }
+        ensures answer { (times : List ℕ) → WasGiven self.old times → result ≡ animator_answer self.old.plan times time }
         ensures given { (times : List ℕ) → WasGiven self.old times → WasGiven self.new (times ++ time ∷ []) }
         ensures plan { self.new.plan ≡ self.old.plan }
     {

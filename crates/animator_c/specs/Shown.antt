@@ -2,7 +2,7 @@
 use Rattle.std.specs.Prelude.{◌≡◌, ◌≤◌, ◌++◌, ◌∷◌, [], ℕ, List, Some, None, if◌then◌else◌, take}
 use Rattle.animator.specs.Given.{Animating, WasGiven}
 use Rattle.animator.specs.Plans.{IsPlan}
-use Rattle.animator.specs.Valuing.{answer}
+use Rattle.animator.specs.Valuing.{animator_answer}
 use Rattle.animator.specs.declared.plan.Plan.{Plan}
 use Rattle.animator.specs.declared.values.Valued.{Valued}
 use Rattle.animator.specs.declared.values.Valued.TheVariants.{Value, End, Over}
@@ -34,7 +34,7 @@ no_plan = record { value = 0; kind = 3 }
 
 -- the answer at a time is the animator's, whatever times it was given
 abbrev pub TellsAt : FrameAnimator → ℕ → ValueAnswer → Type 0
-TellsAt a time r = (times : List ℕ) → WasGiven (animating a) times → r ≡ shown (answer (plan_of a) times time)
+TellsAt a time r = (times : List ℕ) → WasGiven (animating a) times → r ≡ shown (animator_answer (plan_of a) times time)
 
 -- afterwards it was given that time too
 abbrev pub Takes : FrameAnimator → ℕ → FrameAnimator → Type 0

@@ -16,7 +16,7 @@ use Rattle.choreographer.specs.Frame.{begin_place, progress, progress_of, GrowsQ
 use Rattle.choreographer.specs.Turn.{HasConstants, count_of, holds, last_of, measured, sealed_of, asked_of, delivers_by, AsksIfScheduled, taking, giving}
 use Rattle.choreographer.specs.Plays.{Sat, FoundBy, FoundPulse, FoundHeard, MayGive, MaySeal, MayPulse}
 use Rattle.choreographer.specs.Steps.{HasSameConstants, StepsBy}
-use Rattle.choreographer.specs.Known.{Known, HasOwn, HearsTurn, IsTurn}
+use Rattle.choreographer.specs.Known.{Pass, HasOwn, HearsTurn, IsFrameTurn}
 use Rattle.loop_model.proofs.Prefixes.{prefix_self}
 use Rattle.choreographer.proofs.Heard.{entries_given, heard_given, numbers_given, turn_hears}
 use Rattle.choreographer.proofs.Quiet.{grows_self}
@@ -34,9 +34,9 @@ delivers v key n own_key named only =
     (λ i. delivers_by (own_key i) (only i)) ∙ (ap (λ (o : Option ℕ). option_map_or (λ m. nat_lt 0 (count_of m (n ∷ []))) o false) named ∙ ap (nat_lt 0) one)
 
 -- a pass that took the turn, found x, and gave the turn back with y
-one_turn : (key : Constants) (before after : Known) (x y : Kept) (made : List (ℕ × FrameEntry)) → after.table ≡ before.table → after.number ≡ before.number
+one_turn : (key : Constants) (before after : Pass) (x y : Kept) (made : List (ℕ × FrameEntry)) → after.table ≡ before.table → after.number ≡ before.number
     → after.view ≡ giving (taking before.view x made) y → before.view.constants ≡ Some key → HasConstants key x → HasConstants key y → FoundBy before.view x
-    → IsPrefix x.frames.entries y.frames.entries → FoundPulse key before.view x → before.view.passes ≡ before.number ∷ [] → HearsTurn before after x y → IsTurn before after x y
+    → IsPrefix x.frames.entries y.frames.entries → FoundPulse key before.view x → before.view.passes ≡ before.number ∷ [] → HearsTurn before after x y → IsFrameTurn before after x y
 one_turn key before after x y made table number is own_key of_x of_y found grows latest only hears = record {
   table = table;
   number = number;
@@ -64,15 +64,15 @@ one_turn key before after x y made table number is own_key of_x of_y found grows
 }
 
 -- so it is by the two steps of its seat: s is what it knew as it took the turn, and t once it gave it back
-pub turned : (key : Constants) (inside now after : Known) (x y : Kept) (s t : Sat) → inside ≡ now → now.view.constants ≡ Some key → inside.view.passes ≡ inside.number ∷ [] → HasOwn inside.view
+pub turned : (key : Constants) (inside now after : Pass) (x y : Kept) (s t : Sat) → inside ≡ now → now.view.constants ≡ Some key → inside.view.passes ≡ inside.number ∷ [] → HasOwn inside.view
     → s ≡ (taking inside.view x s.0.heard, (0, None) ∷ []) → HasConstants key x × FoundBy inside.view x → FoundHeard inside.view x s.0.heard → FoundPulse key inside.view x → HasConstants key y
-    → IsPrefix x.frames.entries y.frames.entries → t ≡ (giving s.0 y, []) × HasOwn t.0 → after ≡ record { table = inside.table; number = inside.number; view = t.0 } → IsTurn now after x y
+    → IsPrefix x.frames.entries y.frames.entries → t ≡ (giving s.0 y, []) × HasOwn t.0 → after ≡ record { table = inside.table; number = inside.number; view = t.0 } → IsFrameTurn now after x y
 turned key inside now after x y s t same own_key one own took found hears latest of_y grows gave is =
     let made : List (ℕ × FrameEntry) = s.0.heard in
-    let b : Known = record { table = inside.table; number = inside.number; view = t.0 } in
+    let b : Pass = record { table = inside.table; number = inside.number; view = t.0 } in
     let view : t.0 ≡ giving (taking inside.view x made) y = ap (λ (z : Sat). z.0) gave.0 ∙ ap (λ (z : Sat). giving z.0 y) took in
-    subst (λ (z : Known × Known). IsTurn z.0 z.1 x y) (λ i. (same i, sym is i))
-    (one_turn key inside b x y made refl refl view (ap (λ (p : Known). p.view.constants) same ∙ own_key) found.0 of_y found.1 grows latest one (turn_hears inside b x y made one own hears refl view gave.1))
+    subst (λ (z : Pass × Pass). IsFrameTurn z.0 z.1 x y) (λ i. (same i, sym is i))
+    (one_turn key inside b x y made refl refl view (ap (λ (p : Pass). p.view.constants) same ∙ own_key) found.0 of_y found.1 grows latest one (turn_hears inside b x y made one own hears refl view gave.1))
 
 -- a seat that gives back what it may still has its own
 pub own_given : (key : Constants) (v : View) (x : Kept) → v.constants ≡ Some key → HasOwn v → IsPrefix v.seen x.frames.entries → MaySeal key v x → HasOwn (giving v x)
@@ -131,7 +131,7 @@ hands_more s t (Ok part) h =
     omega (arith, whole, all, length-append s.sealed part)
 hands_more s t (Err e) h = let same = ap (λ (f : Frames). length f.sealed) h in omega (arith, same)
 
-pub part_handed : (before : Known) (s t : Frames) (answer : Result (List FrameEntry) NoMemory) → Seals s answer t → (handed : ℕ) → handed ≡ before.view.handed + (length t.sealed - length s.sealed)
+pub part_handed : (before : Pass) (s t : Frames) (answer : Result (List FrameEntry) NoMemory) → Seals s answer t → (handed : ℕ) → handed ≡ before.view.handed + (length t.sealed - length s.sealed)
     → IfOk answer (λ part. handed ≡ before.view.handed + length part)
 part_handed before s t (Ok part) h handed is =
     let whole = ap length h.0 in

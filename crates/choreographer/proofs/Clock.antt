@@ -14,7 +14,7 @@ use Rattle.frame_phases.proofs.History.{past-push, last_time-take}
 use Rattle.frame_phases.proofs.Rising.{time_rises, time_rises_after, take_at_most}
 use Rattle.choreographer.specs.declared.kept.Kept.{Kept}
 use Rattle.choreographer.specs.Frame.{IsQuiet}
-use Rattle.choreographer.specs.Turn.{is_later, has_later, GoesWithClock, IsStamped}
+use Rattle.choreographer.specs.Turn.{is_moment_later, has_later, GoesWithClock, IsStamped}
 use Rattle.choreographer.specs.Calls.{IfBackwards}
 use Rattle.choreographer.proofs.Quiet.{quiet_same}
 
@@ -22,9 +22,9 @@ use Rattle.choreographer.proofs.Quiet.{quiet_same}
 pub later_parts : (t : ℕ) (xs ys : List FrameEntry) → has_later t (xs ++ ys) ≡ false → (has_later t xs ≡ false) × (has_later t ys ≡ false)
 later_parts t [] ys none = (refl, none)
 later_parts t (x ∷ xs) ys none =
-    let p = or_parts (is_later t x) (has_later t (xs ++ ys)) none in
+    let p = or_parts (is_moment_later t x) (has_later t (xs ++ ys)) none in
     let q = later_parts t xs ys p.1 in
-    (or_from (is_later t x) (has_later t xs) p.0 q.0, q.1)
+    (or_from (is_moment_later t x) (has_later t xs) p.0 q.0, q.1)
 
 -- before anything happened
 pub goes_first : (interval : ℕ) → GoesWithClock interval 0 []

@@ -7,7 +7,7 @@ use Rattle.loop_model.proofs.Prefixes.{prefix_self, prefix_trans, prefix_all, pr
 use Rattle.frame_phases.specs.declared.entry.FrameEntry.{FrameEntry}
 use Rattle.frame_phases.specs.State.{Frames}
 use Rattle.choreographer.specs.declared.kept.Kept.{Kept}
-use Rattle.choreographer.specs.Known.{Known, IsTurn}
+use Rattle.choreographer.specs.Known.{Pass, IsFrameTurn}
 use Rattle.choreographer.specs.Calls.{SealedBy}
 use Rattle.choreographer.specs.Ends.{HasHandedOut}
 
@@ -17,7 +17,7 @@ same_beginning xs ys zs rest begins is long =
     prefix_all xs ys (prefix_shorter xs ys zs begins (rest, is) (omega (arith, long))) (omega (arith, long))
 
 -- a turn that hands nothing out
-pub hands_same : (before after : Known) (x y : Kept) → IsTurn before after x y → length y.frames.sealed ≤ length x.frames.sealed → (entries : List FrameEntry)
+pub hands_same : (before after : Pass) (x y : Kept) → IsFrameTurn before after x y → length y.frames.sealed ≤ length x.frames.sealed → (entries : List FrameEntry)
     → HasHandedOut before entries → HasHandedOut after entries
 hands_same before after x y t same entries out =
     let handed = t.handed in
@@ -26,7 +26,7 @@ hands_same before after x y t same entries out =
     (omega (arith, handed, same, long), prefix_trans entries before.view.seen after.view.seen out.1 (subst (IsPrefix before.view.seen) (sym t.seen) grew))
 
 -- a sealing: the part stands behind the others
-pub hands_part : (before after : Known) (result : Result (List FrameEntry) NoMemory) → SealedBy before after result → (entries : List FrameEntry) → HasHandedOut before entries
+pub hands_part : (before after : Pass) (result : Result (List FrameEntry) NoMemory) → SealedBy before after result → (entries : List FrameEntry) → HasHandedOut before entries
     → IfOk result (λ part. HasHandedOut after (entries ++ part)) × OnErr result (HasHandedOut after entries)
 hands_part before after (Ok part) h entries out =
     let x = h.0 in

@@ -11,21 +11,21 @@ use Rattle.frame_phases.specs.Parting.{dealt_to}
 use Rattle.choreographer.specs.declared.kept.Kept.{Kept}
 use Rattle.choreographer.specs.declared.view.Constants.{Constants}
 use Rattle.choreographer.specs.declared.view.View.{View}
-use Rattle.choreographer.specs.Turn.{HasParts, HasHeardOf, AreNumbersOf, AreQuietBut, entries_of, all_by, first_pass, taking, giving, joined}
+use Rattle.choreographer.specs.Turn.{HasParts, HasHeardOf, AreNumbersOf, AreQuietBut, made_entries, all_by, first_pass, taking, giving, joined}
 use Rattle.choreographer.specs.Plays.{FoundHeard}
-use Rattle.choreographer.specs.Known.{Known, HasOwn, HasHeardWho, HearsTurn}
+use Rattle.choreographer.specs.Known.{Pass, HasOwn, HasHeardWho, HearsTurn}
 use Rattle.choreographer.proofs.Counting.{drop_prefix}
 use Rattle.choreographer.proofs.Others.{quiet_but_rest, quiet_others}
 use Rattle.choreographer.proofs.Dealt.{only_first, all_by-elements, dealt_behind, dealt_more, dealt_same, parts_within}
 
 -- the entries of a longer list go on with those of its beginning
-pub entries_begin : (heard made : List (ℕ × FrameEntry)) (seen whole : List FrameEntry) → IsPrefix heard made → entries_of heard ≡ seen → entries_of made ≡ whole → IsPrefix seen whole
+pub entries_begin : (heard made : List (ℕ × FrameEntry)) (seen whole : List FrameEntry) → IsPrefix heard made → made_entries heard ≡ seen → made_entries made ≡ whole → IsPrefix seen whole
 entries_begin heard made seen whole p seen_is whole_is =
     subst (λ (z : List FrameEntry × List FrameEntry). IsPrefix z.0 z.1) (λ i. (seen_is i, whole_is i))
-    (entries_of p.0, sym (map-append (λ (d : ℕ × FrameEntry). d.1) heard p.0) ∙ ap entries_of p.1)
+    (made_entries p.0, sym (map-append (λ (d : ℕ × FrameEntry). d.1) heard p.0) ∙ ap made_entries p.1)
 
 -- who has seen all entries has heard of all
-pub all_heard : (heard made : List (ℕ × FrameEntry)) (seen : List FrameEntry) → IsPrefix heard made → entries_of heard ≡ seen → entries_of made ≡ seen → heard ≡ made
+pub all_heard : (heard made : List (ℕ × FrameEntry)) (seen : List FrameEntry) → IsPrefix heard made → made_entries heard ≡ seen → made_entries made ≡ seen → heard ≡ made
 all_heard heard made seen p seen_is whole_is =
     let f : ℕ × FrameEntry → FrameEntry = λ d. d.1 in
     let a = ap length seen_is in
@@ -34,14 +34,14 @@ all_heard heard made seen p seen_is whole_is =
     let d = length-map made f in
     prefix_all heard made p (omega (arith, a, b, c, d))
 
-pub longer_entries : (xs ys : List (ℕ × FrameEntry)) → entries_of (longer xs ys) ≡ longer (entries_of xs) (entries_of ys)
+pub longer_entries : (xs ys : List (ℕ × FrameEntry)) → made_entries (longer xs ys) ≡ longer (made_entries xs) (made_entries ys)
 longer_entries xs ys =
     let f : ℕ × FrameEntry → FrameEntry = λ d. d.1 in
     let a = length-map xs f in
     let b = length-map ys f in
     dite (dec_lt (length xs) (length ys))
-    (λ lt. ap entries_of (longer_second xs ys lt) ∙ sym (longer_second (entries_of xs) (entries_of ys) (omega (arith, lt, a, b))))
-    (λ not. ap entries_of (longer_first xs ys (omega (arith, not))) ∙ sym (longer_first (entries_of xs) (entries_of ys) (omega (arith, not, a, b))))
+    (λ lt. ap made_entries (longer_second xs ys lt) ∙ sym (longer_second (made_entries xs) (made_entries ys) (omega (arith, lt, a, b))))
+    (λ not. ap made_entries (longer_first xs ys (omega (arith, not))) ∙ sym (longer_first (made_entries xs) (made_entries ys) (omega (arith, not, a, b))))
 
 -- the one part of a view with this one pass, with more entries behind it
 part_behind : (made : List (ℕ × FrameEntry)) (passes : List ℕ) (parts : List (List FrameEntry)) (more : List FrameEntry) (n : ℕ) → passes ≡ n ∷ []
@@ -55,7 +55,7 @@ pub parts_given : (made : List (ℕ × FrameEntry)) (v : View) (x : Kept) → le
     → HasParts (made ++ all_by (first_pass v) (drop (length v.seen) x.frames.entries)) (giving v x)
 parts_given made v x one is = part_behind made v.passes v.parts (drop (length v.seen) x.frames.entries) (get_or v.passes 0 0) (only_first v.passes one) is
 
-pub entries_given : (v : View) (x : Kept) → entries_of v.heard ≡ v.seen → IsPrefix v.seen x.frames.entries → entries_of (giving v x).heard ≡ x.frames.entries
+pub entries_given : (v : View) (x : Kept) → made_entries v.heard ≡ v.seen → IsPrefix v.seen x.frames.entries → made_entries (giving v x).heard ≡ x.frames.entries
 entries_given v x is p =
     let n : ℕ = get_or v.passes 0 0 in
     let new : List FrameEntry = drop (length v.seen) x.frames.entries in
@@ -109,7 +109,7 @@ numbers_begin key xs ys p are n far =
     nil_from_length (dealt_to n xs) (omega (arith, all, both))
 
 -- a pass has heard what it recorded
-pub knows_own : (p : Known) → p.view.passes ≡ p.number ∷ [] → HasOwn p.view → HasHeardWho p
+pub knows_own : (p : Pass) → p.view.passes ≡ p.number ∷ [] → HasOwn p.view → HasHeardWho p
 knows_own p one own = record {
   seen = own.seen;
   own = ap (λ (l : List (List FrameEntry)). get_or l 0 []) (ap (map (λ n. dealt_to n p.view.heard)) (sym one) ∙ (sym own.heard ∙ own.part));
@@ -131,7 +131,7 @@ no_more n passes xs ys begins one same =
     ∙ subst (λ (ps : List ℕ). get_or (map (λ k. dealt_to k ys) ps) 0 [] ≡ get_or (map (λ k. dealt_to k xs) ps) 0 []) one (ap (λ (l : List (List FrameEntry)). get_or l 0 []) same))
 
 -- a turn of a pass: what others recorded, and behind that what it recorded itself
-pub turn_hears : (before after : Known) (x y : Kept) (made : List (ℕ × FrameEntry)) → before.view.passes ≡ before.number ∷ [] → HasOwn before.view → FoundHeard before.view x made
+pub turn_hears : (before after : Pass) (x y : Kept) (made : List (ℕ × FrameEntry)) → before.view.passes ≡ before.number ∷ [] → HasOwn before.view → FoundHeard before.view x made
     → after.number ≡ before.number → after.view ≡ giving (taking before.view x made) y → HasOwn after.view → HearsTurn before after x y
 turn_hears before after x y made one own found number is own' =
     let none : dealt_to before.number found.begins.0 ≡ [] = no_more before.number before.view.passes before.view.heard made found.begins one (sym found.parts ∙ own.heard) in

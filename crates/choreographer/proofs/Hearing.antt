@@ -12,7 +12,7 @@ use Rattle.choreographer.specs.declared.view.View.{View}
 use Rattle.choreographer.specs.Frame.{GrowsQuietly}
 use Rattle.choreographer.proofs.Heard.{no_more}
 use Rattle.choreographer.proofs.Others.{quiet_but_rest, quiet_others}
-use Rattle.choreographer.specs.Turn.{HasParts, AreNumbersOf, AreQuietBut, count_of, last_of, entries_of, fresh, either_frame, joined}
+use Rattle.choreographer.specs.Turn.{HasParts, AreNumbersOf, AreQuietBut, count_of, last_of, made_entries, fresh, either_frame, joined}
 use Rattle.choreographer.specs.Plays.{Sat}
 use Rattle.choreographer.specs.Known.{IsIdle, HasOnlyHeard}
 
@@ -22,7 +22,7 @@ either_none (Some f) = refl
 
 -- m is the pass's seat with the note taken in, and n the same once the lists are compared
 module _ (number : ℕ) (s : Sat) (o : View) (m n : Sat) (idle : IsIdle number s) (took_in : m ≡ (joined s.0 (fresh o []), s.1)) (same : n ≡ m)
-    (told : All (λ t. IsPrefix t m.0.heard) m.0.told) (entries : entries_of m.0.heard ≡ m.0.seen) (parts : HasParts m.0.heard m.0)
+    (told : All (λ t. IsPrefix t m.0.heard) m.0.told) (entries : made_entries m.0.heard ≡ m.0.seen) (parts : HasParts m.0.heard m.0)
     (numbers : (c : Constants) → m.0.constants ≡ Some c → AreNumbersOf c m.0.heard)
     (quiet : (c : Constants) → m.0.constants ≡ Some c → (k : ℕ) → c.pulses ≡ Some k → AreQuietBut k m.0.heard) where
   now : n.0 ≡ joined s.0 (fresh o [])
@@ -56,7 +56,7 @@ module _ (number : ℕ) (s : Sat) (o : View) (m n : Sat) (idle : IsIdle number s
     record {
       part = ap (λ (z : View). z.parts) now ∙ (ap (λ (l : List (List FrameEntry)). l ++ []) idle.3.part ∙ ap (λ (l : List FrameEntry). l ∷ []) (sym own_now));
       heard = subst (λ (z : Sat). HasParts z.0.heard z.0) (sym same) parts;
-      seen = subst (λ (z : Sat). entries_of z.0.heard ≡ z.0.seen) (sym same) entries;
+      seen = subst (λ (z : Sat). made_entries z.0.heard ≡ z.0.seen) (sym same) entries;
       below = λ c e. subst (All (λ p. p < c.passes)) (sym passes_now) (idle.3.below c (sym (ap (λ (z : View). z.constants) now) ∙ e));
       numbers = subst (λ (z : Sat). (c : Constants) → z.0.constants ≡ Some c → AreNumbersOf c z.0.heard) (sym same) numbers;
       handed = λ c e no_last. handed_now ∙ idle.3.handed c (sym (ap (λ (z : View). z.constants) now) ∙ e) (ap (count_of (last_of c)) (sym passes_now) ∙ no_last);
@@ -72,9 +72,9 @@ module _ (number : ℕ) (s : Sat) (o : View) (m n : Sat) (idle : IsIdle number s
       ap (map (λ k. dealt_to k m.0.heard)) (sym of_passes) ∙ (sym parts ∙ (ap (λ (z : Sat). z.0.parts) took_in ∙ append-nil s.0.parts)) in
       let none : dealt_to number begins.0 ≡ [] = no_more number s.0.passes s.0.heard m.0.heard begins idle.2 (now_parts ∙ idle.3.heard) in
       let hushed = quiet_but_rest number s.0.heard begins.0 (subst (AreQuietBut number) (sym begins.1) (quiet c (ap (λ (z : Sat). z.0.constants) took_in ∙ e) number named)) in (
-        entries_of begins.0,
-        ap (λ (l : List FrameEntry). l ++ entries_of begins.0) (sym idle.3.seen)
-            ∙ (sym (map-append (λ (d : ℕ × FrameEntry). d.1) s.0.heard begins.0) ∙ (ap entries_of begins.1 ∙ (entries ∙ ap (λ (z : Sat). z.0.seen) (sym same)))),
+        made_entries begins.0,
+        ap (λ (l : List FrameEntry). l ++ made_entries begins.0) (sym idle.3.seen)
+            ∙ (sym (map-append (λ (d : ℕ × FrameEntry). d.1) s.0.heard begins.0) ∙ (ap made_entries begins.1 ∙ (entries ∙ ap (λ (z : Sat). z.0.seen) (sym same)))),
         quiet_others number begins.0 none hushed,
       )
 

@@ -9,7 +9,7 @@ use Rattle.frame_phases.specs.declared.entry.FrameEntry.{FrameEntry}
 use Rattle.frame_phases.specs.declared.entry.FrameEntry.TheVariants.{Posted, Removed, Begin, Take, Ran}
 use Rattle.frame_phases.specs.Parting.{dealt_to}
 use Rattle.choreographer.specs.Frame.{IsQuiet, GrowsQuietly}
-use Rattle.choreographer.specs.Turn.{AreQuietBut, entries_of, all_by}
+use Rattle.choreographer.specs.Turn.{AreQuietBut, made_entries, all_by}
 use Rattle.choreographer.proofs.Counting.{drop_prefix}
 use Rattle.choreographer.proofs.Quiet.{quiet-append}
 
@@ -59,9 +59,9 @@ module _ (n : ℕ) where
   dealt_first k e = if k == n then Some e else None
 
   -- a list in which nothing stands beside the pass's number
-  pub quiet_others : (es : List (ℕ × FrameEntry)) → dealt_to n es ≡ [] → AreQuietBut n es → IsQuiet (entries_of es)
+  pub quiet_others : (es : List (ℕ × FrameEntry)) → dealt_to n es ≡ [] → AreQuietBut n es → IsQuiet (made_entries es)
   quiet_others [] none q = tt
-  quiet_others ((k, e) ∷ es) none q = quiet-append (e ∷ []) (entries_of es) (q.0 apart) (quiet_others es (rest (k == n) none) q.1)
+  quiet_others ((k, e) ∷ es) none q = quiet-append (e ∷ []) (made_entries es) (q.0 apart) (quiet_others es (rest (k == n) none) q.1)
     where
       apart : k ≢ n
       apart is =

@@ -8,7 +8,7 @@ use Rattle.frame_phases.specs.State.{delivered}
 use Rattle.choreographer.specs.declared.kept.Kept.{Kept}
 use Rattle.choreographer.specs.declared.view.Constants.{Constants}
 use Rattle.choreographer.specs.Turn.{AsksIfScheduled, awaits_frame, awaits_by}
-use Rattle.choreographer.specs.Known.{Shared, Known, IsOf, IfAlone, IsTurn, MayBegin}
+use Rattle.choreographer.specs.Known.{SharedFrames, Pass, IsPassOf, IfAlone, IsFrameTurn, MayBegin}
 use Rattle.choreographer.specs.Steps.{pulsed}
 use Rattle.choreographer.specs.Calls.{RemovedBy, AskedBy, DueTurn, BeginTurn, SealedBy, AwaitsBy, KnowsPulse}
 use Rattle.choreographer.proofs.ByTurn.{same_key}
@@ -16,23 +16,23 @@ use Rattle.choreographer.proofs.Waits.{KeepsWait, removed_waits, due_waits, seal
 use Rattle.choreographer.proofs.Latest.{Keeps, turn_keeps, turn_same}
 
 -- a turn that keeps whether a frame is to begin
-pub turn_waits : (before after : Known) (x y : Kept) → IsTurn before after x y → KeepsWait x y → Keeps awaits_by before after
+pub turn_waits : (before after : Pass) (x y : Kept) → IsFrameTurn before after x y → KeepsWait x y → Keeps awaits_by before after
 turn_waits before after x y turn keeps = turn_keeps awaits_frame awaits_by before after x y turn.awaits keeps.awaits
 
-pub due_keeps : (before after : Known) (phase now : ℕ) (result : Bool) → DueTurn before after phase now result → Keeps awaits_by before after
+pub due_keeps : (before after : Pass) (phase now : ℕ) (result : Bool) → DueTurn before after phase now result → Keeps awaits_by before after
 due_keeps before after phase now result t = turn_waits before after t.0 t.1 t.2 (due_waits t.0 t.1 now result t.4)
 
-pub asked_keeps : (before after : Known) (result : Option ℕ) → AskedBy before after result → Keeps awaits_by before after
+pub asked_keeps : (before after : Pass) (result : Option ℕ) → AskedBy before after result → Keeps awaits_by before after
 asked_keeps before after result t = turn_waits before after t.0 t.0 t.1 (keeps_all t.0 t.0 refl)
 
-pub removed_keeps : (before after : Known) (phase id : ℕ) (token : Option ℕ) (result : Result ℕ NoMemory) → RemovedBy before after phase id token result → Keeps awaits_by before after
+pub removed_keeps : (before after : Pass) (phase id : ℕ) (token : Option ℕ) (result : Result ℕ NoMemory) → RemovedBy before after phase id token result → Keeps awaits_by before after
 removed_keeps before after phase id token result t = turn_waits before after t.0 t.1 t.2 (removed_waits t.0 t.1 phase id token result t.4 t.5)
 
-pub sealed_keeps : (before after : Known) (result : Result (List FrameEntry) NoMemory) → SealedBy before after result → Keeps awaits_by before after
+pub sealed_keeps : (before after : Pass) (result : Result (List FrameEntry) NoMemory) → SealedBy before after result → Keeps awaits_by before after
 sealed_keeps before after result t = turn_waits before after t.0 t.1 t.2 (sealed_waits t.0 t.1 result t.3)
 
 -- a turn that delivers the pulse that is asked for, if it came
-pub pulse_awaits : (before after : Known) (x y : Kept) (now : ℕ) (came : Option ℕ) → IsTurn before after x y → ((c : Constants) → before.view.constants ≡ Some c → AsksIfScheduled c x)
+pub pulse_awaits : (before after : Pass) (x y : Kept) (now : ℕ) (came : Option ℕ) → IsFrameTurn before after x y → ((c : Constants) → before.view.constants ≡ Some c → AsksIfScheduled c x)
     → came ≡ delivered x.frames.asked now → y ≡ pulsed x came → AwaitsBy before after came
 pulse_awaits before after x y now came turn asks is left = λ c e named. by_pulse came is left c e named
   where
@@ -43,7 +43,7 @@ pulse_awaits before after x y now came turn asks is left = λ c e named. by_puls
         (sym s.0 ∙ pulsed_none x y now stamp due, s.1 ∙ pulsed_one x y now stamp due same (asks c e before.number named))
 
 -- where no pass is named that alone delivers pulses, any may deliver them and begin a frame
-pub any_begins : (p : Known) (q : Shared) → IsOf p q → q.constants.pulses ≡ None → MayBegin p q
+pub any_begins : (p : Pass) (q : SharedFrames) → IsPassOf p q → q.constants.pulses ≡ None → MayBegin p q
 any_begins p q of_it none_named = (
   λ n named. let both : None ≡ Some n = sym none_named ∙ named in absurd (cc (both)),
   λ c e named.
@@ -52,23 +52,23 @@ any_begins p q of_it none_named = (
 )
 
 -- the pass that may begin a frame, or any other where none alone delivers pulses, finds one that is to begin
-pub finds_one : (q : Shared) (before after : Known) (x y : Kept) → IsTurn before after x y → MayBegin before q → IfAlone before (awaits_frame x ≡ 1)
+pub finds_one : (q : SharedFrames) (before after : Pass) (x y : Kept) → IsFrameTurn before after x y → MayBegin before q → IfAlone before (awaits_frame x ≡ 1)
 finds_one q before after x y turn may = λ c e named. (turn.awaits c e named).0 ∙ may.1 c e named
 
 -- a frame that began, whose phases keep what is known
-pub frame_ends_wait : (before middle after : Known) (start time : ℕ) → BeginTurn before middle start (begin.Began time) → Keeps awaits_by middle after → IfAlone before (after.view.awaits ≡ 0)
+pub frame_ends_wait : (before middle after : Pass) (start time : ℕ) → BeginTurn before middle start (begin.Began time) → Keeps awaits_by middle after → IfAlone before (after.view.awaits ≡ 0)
 frame_ends_wait before middle after start time t keeps = λ c e named.
     let same = turn_same before middle t.0 t.1 t.2 in
     keeps c (same.2 ∙ e) (named ∙ ap Some (sym same.1)) ∙ ((t.2.awaits c e named).1 ∙ begun_none t.0 t.1 start time t.3)
 
 -- one that would have gone back
-pub backwards_ends_wait : (before after : Known) (start last : ℕ) → BeginTurn before after start (begin.Backwards last) → IfAlone before (after.view.awaits ≡ 0)
+pub backwards_ends_wait : (before after : Pass) (start last : ℕ) → BeginTurn before after start (begin.Backwards last) → IfAlone before (after.view.awaits ≡ 0)
 backwards_ends_wait before after start last t = λ c e named. (t.2.awaits c e named).1 ∙ backwards_none t.0 t.1 start last t.3
 
 -- one that is in progress
-pub running_waits : (before after : Known) (start next : ℕ) → BeginTurn before after start (begin.Running next) → Keeps awaits_by before after
+pub running_waits : (before after : Pass) (start next : ℕ) → BeginTurn before after start (begin.Running next) → Keeps awaits_by before after
 running_waits before after start next t = turn_waits before after t.0 t.1 t.2 (keeps_all t.0 t.1 t.3.1)
 
 -- and none that is not scheduled
-pub never_unscheduled : (q : Shared) (before after : Known) (start : ℕ) → MayBegin before q → BeginTurn before after start begin.Unscheduled → IfAlone before ⊥
+pub never_unscheduled : (q : SharedFrames) (before after : Pass) (start : ℕ) → MayBegin before q → BeginTurn before after start begin.Unscheduled → IfAlone before ⊥
 never_unscheduled q before after start may t = λ c e named. unscheduled_never t.0 t.1 start t.3 (finds_one q before after t.0 t.1 t.2 may c e named)

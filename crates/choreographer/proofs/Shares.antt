@@ -8,7 +8,7 @@ use Rattle.loop_model.specs.Lists.{total}
 use Rattle.loop_model.proofs.Sums.{total-append, total-set}
 use Rattle.choreographer.specs.declared.kept.Kept.{Kept}
 use Rattle.choreographer.specs.declared.view.View.{View}
-use Rattle.choreographer.specs.Turn.{Board, measured, AddsUp, KnowsOf}
+use Rattle.choreographer.specs.Turn.{Board, measured, SumsUp, KnowsOf}
 
 -- a sum to which nothing adds
 all_zero : (f : View → ℕ) (views : List View) → ((j : ℕ) (u : View) → get_elem? views j ≡ some u → f u ≡ 0) → total f views ≡ 0
@@ -76,30 +76,30 @@ join_same share views id other v w b rest at there both empty =
 
 module _ (measure : Kept → ℕ) (share : View → ℕ) where
   -- the state is where it was, and so is who has the turn
-  pub adds_same : (s : Board) (words : List ℕ) (views : List View) → AddsUp measure share s → total share views ≡ total share s.views → AreStill s.views views
-      → AddsUp measure share (record { words = words; homes = s.homes; views = views })
+  pub adds_same : (s : Board) (words : List ℕ) (views : List View) → SumsUp measure share s → total share views ≡ total share s.views → AreStill s.views views
+      → SumsUp measure share (record { words = words; homes = s.homes; views = views })
   adds_same s words views a same still = record {
     home = λ x here. a.home x here ∙ sym same;
     out = λ j u there has. let was = still j u there has in a.out was.0 u was.1 has ∙ sym same;
   }
 
   -- the state was taken by a view that found it
-  pub adds_taken : (s t : Board) (x : Kept) → AddsUp measure share s → get_elem? s.homes 0 ≡ some (some (Some x)) → ((y : Kept) → get_elem? t.homes 0 ≡ some (some (Some y)) → ⊥)
-      → total share t.views ≡ total share s.views → ((j : ℕ) (u : View) → get_elem? t.views j ≡ some u → u.has_turn ≡ true → u.found ≡ Some x) → AddsUp measure share t
+  pub adds_taken : (s t : Board) (x : Kept) → SumsUp measure share s → get_elem? s.homes 0 ≡ some (some (Some x)) → ((y : Kept) → get_elem? t.homes 0 ≡ some (some (Some y)) → ⊥)
+      → total share t.views ≡ total share s.views → ((j : ℕ) (u : View) → get_elem? t.views j ≡ some u → u.has_turn ≡ true → u.found ≡ Some x) → SumsUp measure share t
   adds_taken s t x a here nothing same found = record {
     home = λ y there. absurd (nothing y there);
     out = λ j u there has. ap (measured measure) (found j u there has) ∙ (a.home x here ∙ sym same);
   }
 
   -- the state is at home
-  pub adds_home : (t : Board) (x : Kept) → ((y : Kept) → get_elem? t.homes 0 ≡ some (some (Some y)) → x ≡ y) → measure x ≡ total share t.views → AreIdle t.views → AddsUp measure share t
+  pub adds_home : (t : Board) (x : Kept) → ((y : Kept) → get_elem? t.homes 0 ≡ some (some (Some y)) → x ≡ y) → measure x ≡ total share t.views → AreIdle t.views → SumsUp measure share t
   adds_home t x this same idle = record {
     home = λ y there. ap measure (sym (this y there)) ∙ same;
     out = λ j u there has. absurd (idle j u there has);
   }
 
   -- what the views have, once one gave back the state that it had found, changed as the state was
-  pub given_sum : (s : Board) (x : Kept) (id : ℕ) (v w : View) → AddsUp measure share s → get_elem? s.views id ≡ some v → v.has_turn ≡ true
+  pub given_sum : (s : Board) (x : Kept) (id : ℕ) (v w : View) → SumsUp measure share s → get_elem? s.views id ≡ some v → v.has_turn ≡ true
       → measured measure v.found ≤ share v + measure x → share w ≡ share v + measure x - measured measure v.found → measure x ≡ total share (set s.views id w)
   given_sum s x id v w a at has enough is = let t = total-set share s.views id v w at in let was = a.out id v at has in omega (arith, t, was, enough, is)
 

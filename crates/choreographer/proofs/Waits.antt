@@ -15,7 +15,7 @@ use Rattle.choreographer.specs.declared.kept.Kept.{Kept}
 use Rattle.choreographer.specs.declared.view.Constants.{Constants}
 use Rattle.std.specs.Option.{option_map_or}
 use Rattle.choreographer.specs.Turn.{AsksIfScheduled, awaits_frame, asked_of}
-use Rattle.choreographer.specs.Steps.{pulsed, known_by, posts_at}
+use Rattle.choreographer.specs.Steps.{pulsed, known_by, posting_moment}
 use Rattle.choreographer.specs.Calls.{with_post}
 
 -- a step that keeps whether a frame is to begin, and after which a pulse is asked for only for a scheduled frame, if so it was before
@@ -76,14 +76,14 @@ module _ (x y : Kept) where
 
   -- a callback is posted
   pub post_waits : (phase due id : ℕ) (token : Option ℕ) (now : ℕ) → y ≡ with_post x phase due id token now → KeepsWait x y
-  post_waits phase due id token now is = by_due (nat_lt (posts_at x due now / 1000000) due) (ap (λ (z : Kept). z.frames) is)
+  post_waits phase due id token now is = by_due (nat_lt (posting_moment x due now / 1000000) due) (ap (λ (z : Kept). z.frames) is)
     where
       grown : Frames
       grown = with_entry x.frames (Posted (next_callback x.frames phase due id token))
 
-      by_due : (b : Bool) → y.frames ≡ (if b then grown else scheduled_at grown (posts_at x due now)) → KeepsWait x y
+      by_due : (b : Bool) → y.frames ≡ (if b then grown else scheduled_at grown (posting_moment x due now)) → KeepsWait x y
       by_due true left = keeps_same (ap (λ (f : Frames). f.scheduled) left) (ap (λ (f : Frames). f.asked) left)
-      by_due false left = keeps_scheduled grown (posts_at x due now) refl refl left
+      by_due false left = keeps_scheduled grown (posting_moment x due now) refl refl left
 
   -- or no memory was found for it
   pub posted_waits : (phase due id : ℕ) (token : Option ℕ) (now : ℕ) (result : Result Scheduling NoMemory) → OnOk result (y ≡ with_post x phase due id token now) → OnErr result (y ≡ x) → KeepsWait x y

@@ -8,7 +8,7 @@ use Rattle.choreographer.specs.Turn.{HasConstants, IsStamped, AsksIfScheduled}
 use Rattle.choreographer.specs.Plays.{FoundBy, FoundSealed, FoundPulse, FoundHeard, MayGive, MaySeal, MayPulse}
 
 -- a seat with this view finds this state, and has heard who recorded its entries
-pub record Finds (key : Constants) (v : View) (x : Kept) (made : List (ℕ × FrameEntry)) : Type 0 where
+pub record HasFound (key : Constants) (v : View) (x : Kept) (made : List (ℕ × FrameEntry)) : Type 0 where
   pub state : HasConstants key x × FoundBy v x
   pub stamped : IsStamped x
   pub handed : FoundSealed key v x

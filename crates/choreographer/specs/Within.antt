@@ -4,37 +4,37 @@ use Rattle.std.specs.Prelude.{length, reverse}
 use mathlib.Core.List.{IsPrefix}
 use Rattle.loop_model.specs.declared.memory.NoMemory.{NoMemory}
 use Rattle.frame_phases.specs.declared.entry.Scheduling.{Scheduling}
-use Rattle.frame_phases.specs.Frames.{next_phase, owed}
+use Rattle.frame_phases.specs.Frames.{next_phase, owed_callbacks}
 use Rattle.frame_phases.specs.State.{scheduling, delivered}
 use Rattle.choreographer.specs.declared.kept.Kept.{Kept}
 use Rattle.choreographer.specs.Client.{Run, with_runs}
 use Rattle.choreographer.specs.Frame.{Batch, begin_place, ran_since, batches_since, progress}
-use Rattle.choreographer.specs.Known.{Shared, Known, IsOf, MayDeliver, IsTurn}
-use Rattle.choreographer.specs.Steps.{pulsed, posts_at}
+use Rattle.choreographer.specs.Known.{SharedFrames, Pass, IsPassOf, MayDeliver, IsFrameTurn}
+use Rattle.choreographer.specs.Steps.{pulsed, posting_moment}
 use Rattle.choreographer.specs.Calls.{with_post}
-use Rattle.choreographer.specs.Done.{runs, runs_of, numbers_of, IsBatch, AreBatches, IsSamePass, TakesPhase, TakesEach}
+use Rattle.choreographer.specs.Done.{runs, runs_of, batch_numbers, IsBatch, AreBatches, IsSamePass, TakesPhase, TakesEach}
 
 -- one turn that posts a callback
-abbrev pub PostTurn : Known → Known → ℕ → ℕ → ℕ → Option ℕ → ℕ → Result Scheduling NoMemory → Type 0
-PostTurn before after phase due id token now result = (x : Kept) × (y : Kept) × IsTurn before after x y
-    × IfOk result (λ r. r ≡ scheduling x.frames due (posts_at x due now)) × OnOk result (y ≡ with_post x phase due id token now) × OnErr result (y ≡ x)
+abbrev pub PostTurn : Pass → Pass → ℕ → ℕ → ℕ → Option ℕ → ℕ → Result Scheduling NoMemory → Type 0
+PostTurn before after phase due id token now result = (x : Kept) × (y : Kept) × IsFrameTurn before after x y
+    × IfOk result (λ r. r ≡ scheduling x.frames due (posting_moment x due now)) × OnOk result (y ≡ with_post x phase due id token now) × OnErr result (y ≡ x)
 
 -- one turn that delivers a pulse
-abbrev pub PulseTurn : Known → Known → ℕ → Option ℕ → Type 0
-PulseTurn before after now result = (x : Kept) × (y : Kept) × IsTurn before after x y × (result ≡ delivered x.frames.asked now) × (y ≡ pulsed x result)
+abbrev pub PulseTurn : Pass → Pass → ℕ → Option ℕ → Type 0
+PulseTurn before after now result = (x : Kept) × (y : Kept) × IsFrameTurn before after x y × (result ≡ delivered x.frames.asked now) × (y ≡ pulsed x result)
 
 -- a pass in a frame: the frame in progress is its own, and this phase is next
-pub record InFrame (phases : ℕ) (p : Known) (next : Option ℕ) : Type 0 where
+pub record InFrame (phases : ℕ) (p : Pass) (next : Option ℕ) : Type 0 where
   pub own : p.view.frame ≡ progress phases p.view.seen
   pub is_next : next_phase phases (reverse p.view.seen) ≡ next
   -- all callbacks that were taken stand as run
-  pub settled : owed (reverse p.view.seen) ≡ []
+  pub settled : owed_callbacks (reverse p.view.seen) ≡ []
   -- its last turn left what it has seen
   pub left : (y : Kept) × (p.view.left ≡ Some y) × (y.frames.entries ≡ p.view.seen)
 
 -- a pass of this choreographer may take this phase: it has the frame in progress, and may deliver pulses
-pub record MayTake (q : Shared) (phase : ℕ) (p : Known) : Type 0 where
-  pub pass : IsOf p q
+pub record MayTake (q : SharedFrames) (phase : ℕ) (p : Pass) : Type 0 where
+  pub pass : IsPassOf p q
   pub frame : InFrame q.constants.phases p (Some phase)
   pub delivers : MayDeliver p q
 
@@ -43,22 +43,22 @@ abbrev pub at_phase : ℕ → ℕ → Option ℕ
 at_phase phases k = if k == phases then None else Some k
 
 -- what some turns of a frame left: the phases below `done` are taken, and the callbacks of these batches stand as run
-pub record PassRan (phases done count : ℕ) (before after : Known) (batches : List Batch) : Type 0 where
+pub record PassRan (phases done count : ℕ) (before after : Pass) (batches : List Batch) : Type 0 where
   pub same : IsSamePass before after
   pub turns : after.view.turns ≡ before.view.turns + count
   pub grew : IsPrefix before.view.seen after.view.seen
   pub begin : begin_place (reverse after.view.seen) ≡ begin_place (reverse before.view.seen)
-  pub ran : ran_since (reverse after.view.seen) ≡ ran_since (reverse before.view.seen) ++ numbers_of batches
+  pub ran : ran_since (reverse after.view.seen) ≡ ran_since (reverse before.view.seen) ++ batch_numbers batches
   pub taken : batches_since (reverse after.view.seen) ≡ batches_since (reverse before.view.seen) ++ batches
   pub frame : InFrame phases after (at_phase phases done)
 
 -- one phase, with its one batch, which one turn took
-abbrev pub PhaseRan : (ℕ → Bool) → ℕ → ℕ → Known → Known → Option (List Run) → Option (List Run) → Type 0
+abbrev pub PhaseRan : (ℕ → Bool) → ℕ → ℕ → Pass → Pass → Option (List Run) → Option (List Run) → Type 0
 PhaseRan is_moment phases phase before after told told' = (b : Batch) × (told' ≡ with_runs told (runs b.time b.callbacks)) × IsBatch is_moment phase b
     × PassRan phases (phase + 1) 1 before after (b ∷ []) × TakesPhase phase b before after
 
 -- the phases below `count`, one turn each
-abbrev pub PhasesRan : (ℕ → Bool) → ℕ → ℕ → Known → Known → Option (List Run) → Option (List Run) → Type 0
+abbrev pub PhasesRan : (ℕ → Bool) → ℕ → ℕ → Pass → Pass → Option (List Run) → Option (List Run) → Type 0
 PhasesRan is_moment phases count before after told told' =
     (batches : List Batch) × (told' ≡ with_runs told (runs_of batches)) × (length batches ≡ count) × AreBatches is_moment 0 batches
     × PassRan phases count count before after batches × TakesEach 0 batches before after

@@ -5,7 +5,7 @@ use Rattle.std.proofs.lemmas.Bool.{cond_both}
 use Rattle.std.proofs.lemmas.Bool.Decides.{nat_tests}
 use Rattle.countdown.specs.Moments.{latest, elapsed, has_ended}
 use Rattle.countdown.specs.declared.timer.Ticked.TheVariants.{Tick, Quiet, Finished, Over}
-use Rattle.countdown.specs.Ticking.{answer, ticks}
+use Rattle.countdown.specs.Ticking.{countdown_answer, ticks}
 use Rattle.countdown.specs.Laws.{EndsAreToldOnce, HasFinished}
 
 -- ---- the time at which something ends
@@ -64,7 +64,7 @@ ended_among total times before time after are now =
 -- ---- what a countdown tells of it
 
 -- it is over exactly where it has ended before
-over_is : (total interval : ℕ) (times : List ℕ) (time : ℕ) → answer total interval times time ≡ Over → has_ended total times ≡ true
+over_is : (total interval : ℕ) (times : List ℕ) (time : ℕ) → countdown_answer total interval times time ≡ Over → has_ended total times ≡ true
 over_is total interval times time = go (has_ended total times) (has_ended total (times ++ time ∷ [])) (ticks interval times (elapsed (times ++ time ∷ [])))
   where
     go : (a b c : Bool) → cond a Over (cond b Finished (cond c (Tick (total - elapsed (times ++ time ∷ []))) Quiet)) ≡ Over → a ≡ true
@@ -73,11 +73,11 @@ over_is total interval times time = go (has_ended total times) (has_ended total 
     go false false true e = cc
     go false false false e = cc
 
-is_over : (total interval : ℕ) (times : List ℕ) (time : ℕ) → has_ended total times ≡ true → answer total interval times time ≡ Over
+is_over : (total interval : ℕ) (times : List ℕ) (time : ℕ) → has_ended total times ≡ true → countdown_answer total interval times time ≡ Over
 is_over total interval times time h = rw h refl
 
 -- where it finishes it has ended
-finished_is : (total interval : ℕ) (times : List ℕ) (time : ℕ) → answer total interval times time ≡ Finished
+finished_is : (total interval : ℕ) (times : List ℕ) (time : ℕ) → countdown_answer total interval times time ≡ Finished
     → has_ended total (times ++ time ∷ []) ≡ true
 finished_is total interval times time = go (has_ended total times) (has_ended total (times ++ time ∷ [])) (ticks interval times (elapsed (times ++ time ∷ [])))
   where
@@ -89,7 +89,7 @@ finished_is total interval times time = go (has_ended total times) (has_ended to
 
 -- it finishes where it has ended and had not before
 finishes : (total interval : ℕ) (times : List ℕ) (time : ℕ) → has_ended total times ≡ false → has_ended total (times ++ time ∷ []) ≡ true
-    → answer total interval times time ≡ Finished
+    → countdown_answer total interval times time ≡ Finished
 finishes total interval times time none now = rw (none, now) refl
 
 -- where it has ended it has finished

@@ -14,8 +14,8 @@ abbrev pub told : ℕ → ℕ → List ℕ → ℕ → Ticked
 told total interval before now = if ticks interval before now then Tick (total - now) else Quiet
 
 -- what a countdown answers at a time, after the times before
-abbrev pub answer : ℕ → ℕ → List ℕ → ℕ → Ticked
-answer total interval before time =
+abbrev pub countdown_answer : ℕ → ℕ → List ℕ → ℕ → Ticked
+countdown_answer total interval before time =
     if has_ended total before then Over
     else (if has_ended total (before ++ time ∷ []) then Finished
     else told total interval before (elapsed (before ++ time ∷ [])))

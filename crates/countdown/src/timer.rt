@@ -1,7 +1,7 @@
 //! The countdown.
 ghost use Rattle.std.specs.Prelude.{◌≡◌, ◌<◌, ◌++◌, ◌∷◌, [], List, ℕ};
 ghost use Rattle.countdown.specs.Given.{WasGiven};
-ghost use Rattle.countdown.specs.Ticking.{answer};
+ghost use Rattle.countdown.specs.Ticking.{countdown_answer};
 
 use crate::span::Span;
 use std::marker::Model;
@@ -59,7 +59,7 @@ impl Countdown {
     /// elapsed, and `Over` at each frame after it. Before that `Tick` comes at the first frame, and at each frame that has
     /// more whole intervals behind it than the frame before; else `Quiet`. Takes no memory.
     pub fn on_frame(&mut self, time: u64) -> Ticked
-        ensures answer { (times : List ℕ) → WasGiven self.old times → result ≡ answer self.old.total self.old.interval times time }
+        ensures answer { (times : List ℕ) → WasGiven self.old times → result ≡ countdown_answer self.old.total self.old.interval times time }
         ensures given { (times : List ℕ) → WasGiven self.old times → WasGiven self.new (times ++ time ∷ []) }
         ensures total { self.new.total ≡ self.old.total }
         ensures interval { self.new.interval ≡ self.old.interval }

@@ -1,7 +1,7 @@
 -- How C has a countdown and what it tells.
 use Rattle.std.specs.Prelude.{◌≡◌, ◌++◌, ◌∷◌, [], ℕ, List, Some, None, if◌then◌else◌}
 use Rattle.countdown.specs.Given.{Counting, WasGiven}
-use Rattle.countdown.specs.Ticking.{answer}
+use Rattle.countdown.specs.Ticking.{countdown_answer}
 use Rattle.countdown.specs.declared.timer.Ticked.{Ticked}
 use Rattle.countdown.specs.declared.timer.Ticked.TheVariants.{Tick, Quiet, Finished, Over}
 use Rattle.countdown_c.specs.declared.answers.TickAnswer.{TickAnswer}
@@ -24,7 +24,7 @@ no_interval = record { left = 0; kind = 4 }
 
 -- the answer at a time is the countdown's, whatever times it was given
 abbrev pub TellsAt : FrameTimer → ℕ → TickAnswer → Type 0
-TellsAt t time r = (times : List ℕ) → WasGiven (counting t) times → r ≡ shown (answer t.total t.interval times time)
+TellsAt t time r = (times : List ℕ) → WasGiven (counting t) times → r ≡ shown (countdown_answer t.total t.interval times time)
 
 -- afterwards it was given that time too
 abbrev pub Takes : FrameTimer → ℕ → FrameTimer → Type 0

@@ -11,7 +11,7 @@ use Rattle.shared_queue.specs.Known.{Shared, IsOf, IsTurnWith}
 use Rattle.looper_run.specs.Holding.{Sender, State}
 use Rattle.message_pool.specs.Passes.{Tally}
 use Rattle.choreographer.specs.declared.kept.Kept.{Kept}
-use Rattle.choreographer.specs.Known.{Shared as Frames, Known as Pass, IsOf as IsFrameOf, IsTurn as IsFrameTurn}
+use Rattle.choreographer.specs.Known.{SharedFrames, Pass, IsPassOf, IsFrameTurn}
 use Rattle.dash_hall.specs.Growth.{GoesOn}
 use Rattle.dash_hall.specs.Kits.{Badge, badge_of, badge_for, ArePostersOf, FrameBadge, frame_badge_of, frame_badge_for, ArePassesOf, queue_key, queue_constants, AreQueuesOf, frame_key, frame_constants, AreChoreographersOf}
 
@@ -45,13 +45,13 @@ pub gone_badge : (before after : Sender) (pass pass' : Tally) → GoesOn before 
 gone_badge before after pass pass' on = λ i. record { table = on.table i; constants = on.constants i; sender = on.sender i }
 
 -- the pass at a place is of the choreographer there, and has the number
-pub pass_at : (k : ℕ) (cs : List Frames) (ps : List Pass) → ArePassesOf k cs ps → (i : ℕ) (p : Pass) (c : Frames) → i < length ps
-    → IsFrameOf (slice_index_or ps i p) (slice_index_or cs i c)
+pub pass_at : (k : ℕ) (cs : List SharedFrames) (ps : List Pass) → ArePassesOf k cs ps → (i : ℕ) (p : Pass) (c : SharedFrames) → i < length ps
+    → IsPassOf (slice_index_or ps i p) (slice_index_or cs i c)
 pass_at k cs ps h i p c lt =
     let e = alike_at frame_badge_of (frame_badge_for k) ps cs h i p c lt in
     (ap (λ (b : FrameBadge). b.table) e, ap (λ (b : FrameBadge). b.constants) e)
 
-pub passes_kept : (k : ℕ) (cs : List Frames) (ps : List Pass) → ArePassesOf k cs ps → (i : ℕ) (p d : Pass) → frame_badge_of p ≡ frame_badge_of (slice_index_or ps i d) → ArePassesOf k cs (slice_set ps i p)
+pub passes_kept : (k : ℕ) (cs : List SharedFrames) (ps : List Pass) → ArePassesOf k cs ps → (i : ℕ) (p d : Pass) → frame_badge_of p ≡ frame_badge_of (slice_index_or ps i d) → ArePassesOf k cs (slice_set ps i p)
 passes_kept k cs ps h i p d same = map-set_same frame_badge_of ps i p d same ∙ h
 
 pub frame_turn_badge : (before after : Pass) (x y : Kept) → IsFrameTurn before after x y → frame_badge_of after ≡ frame_badge_of before
@@ -66,10 +66,10 @@ queue_at lockstep s pool qs h i q lt =
     sym (get_or-map queue_key qs i q (queue_key q) (subst (λ n. i < n) (sym (queue_count lockstep s pool qs h)) lt)) ∙ ap (λ l. slice_index_or l i (queue_key q)) h
     ∙ get_or-map-range_with_len (queue_constants lockstep s pool) 0 s.loopers i i (queue_key q) lt (omega arith)
 
-pub choreographer_count : (s : Script) (cs : List Frames) → AreChoreographersOf s cs → length cs ≡ s.loopers
+pub choreographer_count : (s : Script) (cs : List SharedFrames) → AreChoreographersOf s cs → length cs ≡ s.loopers
 choreographer_count s cs h = alike_length frame_key (frame_constants s) cs _ h ∙ length-range_with_len 0 s.loopers
 
-pub choreographer_at : (s : Script) (cs : List Frames) → AreChoreographersOf s cs → (i : ℕ) (c : Frames) → i < s.loopers → (slice_index_or cs i c).constants ≡ frame_constants s i
+pub choreographer_at : (s : Script) (cs : List SharedFrames) → AreChoreographersOf s cs → (i : ℕ) (c : SharedFrames) → i < s.loopers → (slice_index_or cs i c).constants ≡ frame_constants s i
 choreographer_at s cs h i c lt =
     sym (get_or-map frame_key cs i c (frame_key c) (subst (λ n. i < n) (sym (choreographer_count s cs h)) lt)) ∙ ap (λ l. slice_index_or l i (frame_key c)) h
     ∙ get_or-map-range_with_len (frame_constants s) 0 s.loopers i i (frame_key c) lt (omega arith)
@@ -82,10 +82,10 @@ poster_is k qs ps h i p q lt is_p is_q =
     (subst (λ (z : Shared TableId). IsOf (slice_index_or ps i p) z × ((slice_index_or ps i p).sender ≡ k)) (sym is_q) (poster_at k qs ps h i p q lt))
 
 -- a pass that was read at a place
-pub pass_is : (k : ℕ) (cs : List Frames) (ps : List Pass) → ArePassesOf k cs ps → (i : ℕ) (p : Pass) (c : Frames) → i < length ps
-    → p ≡ slice_index_or ps i p → c ≡ slice_index_or cs i c → IsFrameOf p c
+pub pass_is : (k : ℕ) (cs : List SharedFrames) (ps : List Pass) → ArePassesOf k cs ps → (i : ℕ) (p : Pass) (c : SharedFrames) → i < length ps
+    → p ≡ slice_index_or ps i p → c ≡ slice_index_or cs i c → IsPassOf p c
 pass_is k cs ps h i p c lt is_p is_c =
-    subst (λ (z : Pass). IsFrameOf z c) (sym is_p) (subst (λ (z : Frames). IsFrameOf (slice_index_or ps i p) z) (sym is_c) (pass_at k cs ps h i p c lt))
+    subst (λ (z : Pass). IsPassOf z c) (sym is_p) (subst (λ (z : SharedFrames). IsPassOf (slice_index_or ps i p) z) (sym is_c) (pass_at k cs ps h i p c lt))
 
 -- a queue that was read at a place
 pub queue_is : (lockstep : Bool) (s : Script) (pool : TableId) (qs : List (Shared TableId)) → AreQueuesOf lockstep s pool qs → (i : ℕ) (q : Shared TableId) → i < s.loopers → q ≡ slice_index_or qs i q → q.constants ≡ queue_constants lockstep s pool i

@@ -6,11 +6,11 @@ use Rattle.loop_model.specs.declared.post.Post.{Post as PostData}
 use Rattle.loop_model.specs.declared.post.Filter.{Filter}
 use Rattle.loop_model.specs.declared.call.Call.TheVariants.{Post, Barrier, Unbarrier, Remove, Quit}
 use Rattle.loop_model.specs.declared.reply.Reply.TheVariants.{Accepted, Refused, Token, Unbarriered, NotPosted, Removed, QuitDone, AlreadyQuit, NotAllowed}
-use Rattle.message_slot.specs.Letter.{post_of, with_number}
+use Rattle.message_slot.specs.Letter.{post_of, letter_with_number}
 use Rattle.message_pool.specs.Passes.{Claimed, Node, Tally}
 use Rattle.message_pool.specs.declared.pool.Obtained.{Obtained}
 use Rattle.message_pool.specs.declared.pool.Obtained.TheVariants.{Pooled, Fresh, NoMemory}
-use Rattle.message_pool.specs.Obtain.{Answers, Returned}
+use Rattle.message_pool.specs.Obtain.{Answers, IsReturned}
 use Rattle.queue_state.specs.declared.answers.BarrierPosted.TheVariants as barred
 use Rattle.queue_state.specs.declared.answers.BarrierGone.TheVariants as gone
 use Rattle.queue_state.specs.declared.answers.Quitting.TheVariants as quitting
@@ -18,7 +18,7 @@ use Rattle.queue_state.specs.Looks.{as_barrier}
 use Rattle.queue_state.specs.Queue.{moment_at}
 use Rattle.shared_queue.specs.Calls.{BarrierPostedBy, BarrierGoneBy, QuitBy}
 use Rattle.looper_run.specs.Holding.{Sender, State}
-use Rattle.run_model.specs.Planned.{plain}
+use Rattle.run_model.specs.Planned.{bare_call}
 use Rattle.handler_post.specs.declared.way.Sent.{Sent}
 use Rattle.handler_post.specs.declared.way.Sent.TheVariants.{Accepted as Took, Refused as Turned, NoMemory as NoRoom}
 use Rattle.handler_post.specs.declared.way.Erased.{Erased}
@@ -47,19 +47,19 @@ pub in_vain_back : (home : TableId) (claim : Option Claimed) (a b : Tally) → O
 in_vain_back home None a b o = omega (arith, o.2)
 in_vain_back home (Some c) a b o = omega (arith, o.2)
 
--- a sending is the post of its message, or no entry at want of memory
+-- a sending is the post of its message, or no entry when out of memory
 pub sends : (home : TableId) (m : PostData) (p q : Sender) (a b : Tally) (r : Sent) → b.home ≡ a.home → Sending home m p q a b r
-    → GoesOn p q a b × IfSent r (own q ≡ own p) (Makes p q (plain (Post m)) [])
+    → GoesOn p q a b × IfSent r (own q ≡ own p) (Makes p q (bare_call (Post m)) [])
 sends home m p q a b (Took number wake) same (claim, (x, y, t, posts, accepted), o) =
     enters p q x y (Post (post_of (letter_of m claim).item)) (Accepted number) a b t (entries_are x y _ posts.2) refl (record { home = same; back = obtained_back home claim a b o })
-    (one_put home x y (with_number number (letter_of m claim)) a b (messages_are x y _ posts.2) o)
+    (one_put home x y (letter_with_number number (letter_of m claim)) a b (messages_are x y _ posts.2) o)
 sends home m p q a b (Turned place) same (claim, (x, y, t, posts, accepted), o) =
     enters p q x y (Post (post_of (letter_of m claim).item)) (Refused place) a b t (entries_are x y _ posts.2) refl (record { home = same; back = in_vain_back home claim a b o })
     (same_messages x y a b (messages_are x y _ posts.2) (in_vain_gives_back home claim a b o))
 sends home m p q a b NoRoom same (claim, none, o) =
     makes_none p q a b none (record { home = same; back = in_vain_back home claim a b o }) (in_vain_gives_back home claim a b o)
 
--- a removal is the call with its filter, or no entry at want of memory
+-- a removal is the call with its filter, or no entry when out of memory
 pub erases : (f : Filter) (p q : Sender) (a b : Tally) (r : Erased) → b.home ≡ a.home → Erasing f p q a b r
     → GoesOn p q a b × IfErased r (own q ≡ own p) (Makes p q (Remove f) [])
 erases f p q a b (Gone count) same (nodes, (x, y, t, takes), n, brought) =
@@ -80,7 +80,7 @@ pub erased_once : (f : Filter) (p q : Sender) (a b : Tally) (r : Erased) → Era
 erased_once f p q a b (Gone count) (nodes, (x, y, t, takes), n, brought) = one_turn p q x y t
 erased_once f p q a b NoSpace (none, kept) = turns_none p q none
 
--- at want of memory either made no entry
+-- when out of memory either made no entry
 sent_still : (home : TableId) (m : PostData) (p q : Sender) (a b : Tally) (r : Sent) → Sending home m p q a b r → IfSent r (MadeNone p q) (Unit {0})
 sent_still home m p q a b (Took number wake) sent = tt
 sent_still home m p q a b (Turned place) sent = tt
@@ -96,13 +96,13 @@ posts_barrier home now m p q a b token k o (x, y, t, posts) =
     enters p q x y (Barrier (moment_at x now)) (Token token) a b t (entries_are x y _ posts.1) refl k (one_put home x y (as_barrier token (moment_at x now) m) a b (messages_are x y _ posts.1) o)
 
 -- none is posted, and its message goes back
-pub posts_no_barrier : (home : TableId) (now : ℕ) (m n : Node) (p q : Sender) (a b d : Tally) → Keeps a d → Obtains home m.claim a b → Returned n.claim b d → BarrierPostedBy p q now m (barred.NoMemory n)
+pub posts_no_barrier : (home : TableId) (now : ℕ) (m n : Node) (p q : Sender) (a b d : Tally) → Keeps a d → Obtains home m.claim a b → IsReturned n.claim b d → BarrierPostedBy p q now m (barred.NoMemory n)
     → GoesOn p q a d × (own q ≡ own p)
 posts_no_barrier home now m n p q a b d k o back (x, y, t, posts) =
-    leaves p q x y a d t posts.1 k (returned_gives_back home m.claim a b d o (subst (λ (z : Node). Returned z.claim b d) posts.0 back))
+    leaves p q x y a d t posts.1 k (returned_gives_back home m.claim a b d o (subst (λ (z : Node). IsReturned z.claim b d) posts.0 back))
 
 -- a barrier is removed, or none has the token
-pub unbars : (token : ℕ) (p q : Sender) (a b : Tally) (n : Node) (wake : Bool) → Keeps a b → Returned n.claim a b → BarrierGoneBy p q token (gone.Unbarriered n wake) → GoesOn p q a b × Makes p q (Unbarrier token) []
+pub unbars : (token : ℕ) (p q : Sender) (a b : Tally) (n : Node) (wake : Bool) → Keeps a b → IsReturned n.claim a b → BarrierGoneBy p q token (gone.Unbarriered n wake) → GoesOn p q a b × Makes p q (Unbarrier token) []
 unbars token p q a b n wake k back (x, y, t, u) =
     enters p q x y (Unbarrier token) Unbarriered a b t (entries_are x y _ u.3) refl k (one_gone (Unbarrier token) Unbarriered x y n a b u.1 (messages_are x y _ u.3) back)
 
@@ -129,7 +129,7 @@ quits_main safe now p q a b k given (x, y, t, u) =
 pub quits_not : (safe : Bool) (now : ℕ) (p q : Sender) (a b : Tally) → Keeps a b → GivesBackAll a b → QuitBy p q safe now quitting.NoMemory → GoesOn p q a b × (own q ≡ own p)
 quits_not safe now p q a b k given (x, y, t, u) = leaves p q x y a b t u.1 k given
 
--- want of memory for one of these left what was found
+-- running out of memory for one of these left what was found
 pub bars_still : (now : ℕ) (m n : Node) (p q : Sender) → BarrierPostedBy p q now m (barred.NoMemory n) → MadeNone p q
 bars_still now m n p q (x, y, t, posts) = made_none p q x y t posts.1
 
@@ -157,10 +157,10 @@ answered_erased P Q (Gone n) (Err x) done ok err = absurd err
 answered_erased P Q NoSpace (Ok x) done ok err = absurd ok
 answered_erased P Q NoSpace (Err x) done ok err = (tt, done)
 
-pub by_send : {A E : Type 0} (v w : Way) (m : PostData) (r : Sent) (res : Result A E) → IsReady v → IsReady w → IsSameWay v w → Sends m v w r → OnOk res (IfSent r ⊥ (Unit {0})) → OnErr res (IfSent r (Unit {0}) ⊥) → WayCalled v w (plain (Post m)) no_token res
+pub by_send : {A E : Type 0} (v w : Way) (m : PostData) (r : Sent) (res : Result A E) → IsReady v → IsReady w → IsSameWay v w → Sends m v w r → OnOk res (IfSent r ⊥ (Unit {0})) → OnErr res (IfSent r (Unit {0}) ⊥) → WayCalled v w (bare_call (Post m)) no_token res
 by_send v w m r res ready ready' same sent ok err =
     let done = sends v.pool.now m v.poster.now w.poster.now v.pass.now w.pass.now r (same_home v w ready ready' same) sent in
-    let answers = answered_sent (own w.poster.now ≡ own v.poster.now) (Makes v.poster.now w.poster.now (plain (Post m)) []) r res done.1 ok err in
+    let answers = answered_sent (own w.poster.now ≡ own v.poster.now) (Makes v.poster.now w.poster.now (bare_call (Post m)) []) r res done.1 ok err in
     let still = answered_sent (MadeNone v.poster.now w.poster.now) (Unit {0}) r res (sent_still v.pool.now m v.poster.now w.poster.now v.pass.now w.pass.now r sent) ok err in
     record {
       ready = ready';
@@ -197,6 +197,6 @@ answers_back home a b (Pooled node) (is, taken) = let back : b.back ≡ a.back =
 answers_back home a b (Fresh node look lost) (blank, free) = (let back : b.back ≡ a.back = free.3 in omega (arith, back))
 answers_back home a b NoMemory (look, lost, free) = (let back : b.back ≡ a.back = free.3 in omega (arith, back))
 
-pub returned_back : (claim : Option Claimed) (a b : Tally) → Returned claim a b → a.back ≤ b.back
+pub returned_back : (claim : Option Claimed) (a b : Tally) → IsReturned claim a b → a.back ≤ b.back
 returned_back None a b same = omega (arith, ap (λ (t : Tally). t.back) same)
 returned_back (Some c) a b one = omega (arith, ap (λ (t : Tally). t.back) one)

@@ -24,8 +24,8 @@ use Rattle.shared_queue.specs.Known.{IsTurn}
 use Rattle.looper_run.specs.Holding.{Sender, State}
 use Rattle.looper_run.proofs.Working.{first_all}
 use Rattle.looper_run.proofs.Turning.{IsOther, found}
-use Rattle.run_model.specs.Planned.{plain, entries_by, IsNoEarlier}
-use Rattle.run_model.specs.Moments.{Mode, IfFree, IsMoment, has_moment, IsOfClock, AreOfClockAfter}
+use Rattle.run_model.specs.Planned.{bare_call, entries_by, IsNoEarlier}
+use Rattle.run_model.specs.Moments.{Mode, IfFree, IsMomentOf, has_moment, IsOfClock, AreOfClockAfter}
 use Rattle.dash_hall.specs.declared.calls.QueueCall.{QueueCall}
 use Rattle.dash_hall.specs.declared.calls.QueueCall.TheVariants as on_queue
 use Rattle.dash_hall.specs.Growth.{own, Makes, BarsOf, QuitsOf}
@@ -136,15 +136,15 @@ pub last_same : (es : List Entry) (e f : Entry) → es ++ e ∷ [] ≡ es ++ f �
 last_same es e f same =
     sym (get_or-append_seam es e [] e) ∙ (ap (λ (l : List Entry). get_or l (length es) e) same ∙ get_or-append_seam es f [] e)
 
-pub of_either : (m : Mode) (time u at : ℕ) → ((at ≡ u) ⊎ (at ≡ time)) → IsMoment m u → IsMoment m at ⊎ (at ≡ time)
-of_either m time u at (inl is) moment = inl (subst (IsMoment m) (sym is) moment)
+pub of_either : (m : Mode) (time u at : ℕ) → ((at ≡ u) ⊎ (at ≡ time)) → IsMomentOf m u → IsMomentOf m at ⊎ (at ≡ time)
+of_either m time u at (inl is) moment = inl (subst (IsMomentOf m) (sym is) moment)
 of_either m time u at (inr is) moment = inr is
 
 module _ (m : Mode) (call : ℕ → Call) (p q : Sender) (u : ℕ) (mode : IsInMode m p) where
-  pub clocked_at : ((time at : ℕ) → (IsMoment m at ⊎ (at ≡ time)) → IsOfClock m time (call at)) → IfFree m (IsMoment m u) → EntersAt call p q u → IsByClock m p → IsByClock m q
+  pub clocked_at : ((time at : ℕ) → (IsMomentOf m at ⊎ (at ≡ time)) → IsOfClock m time (call at)) → IfFree m (IsMomentOf m u) → EntersAt call p q u → IsByClock m p → IsByClock m q
   clocked_at of_clock moment (x, y, t, r, left) by = clocked_turn m p q x y (call (moment_at x u)) r t left (λ free. (
       let at = its_moment m p q x y u t mode free in
-      of_clock (clock (empty_base 0) x.entries) (moment_at x u) (of_either m (clock (empty_base 0) x.entries) u (moment_at x u) at.0 (MatchBool-at_false (Unit {0}) (IsMoment m u) free moment)))) by
+      of_clock (clock (empty_base 0) x.entries) (moment_at x u) (of_either m (clock (empty_base 0) x.entries) u (moment_at x u) at.0 (MatchBool-at_false (Unit {0}) (IsMomentOf m u) free moment)))) by
 
   pub no_earlier_at : (time : ℕ) → ((at : ℕ) → (m.lockstep ≡ false → time ≤ at) → IsNoEarlier m time (call at)) → IfFree m (time ≤ u) → EntersAt call p q u
       → (e : Entry) → own q ≡ own p ++ e ∷ [] → IsNoEarlier m time e.call
@@ -168,7 +168,7 @@ no_moment_early m time (Next now) none = tt
 no_moment_early m time (Advance now) none = tt
 no_moment_early m time (Halt now) none = tt
 
-plain_moment : (c : Call) → has_moment (plain c) ≡ has_moment c
+plain_moment : (c : Call) → has_moment (bare_call c) ≡ has_moment c
 plain_moment (Post p) = refl
 plain_moment (Unbarrier t) = refl
 plain_moment (Remove f) = refl
@@ -213,9 +213,9 @@ IfTimed P (on_queue.RemoveBarrier token) = Unit {0}
 IfTimed P (on_queue.Quit safe now) = P now
 
 -- its moment is the clock's, or the queue's time
-pub clocked_call : (m : Mode) (c : QueueCall) (token : Option ℕ) (p q : Sender) → IsInMode m p → IfTimed (λ u. IfFree m (IsMoment m u)) c
+pub clocked_call : (m : Mode) (c : QueueCall) (token : Option ℕ) (p q : Sender) → IsInMode m p → IfTimed (λ u. IfFree m (IsMomentOf m u)) c
     → q.sender ≡ p.sender → IsPrefix p.view.seen q.view.seen → Makes p q (call_made c) (tokens_of token) → IsAtItsMoment c token p q → IsByClock m p → IsByClock m q
-clocked_call m (on_queue.Send post) token p q mode moment sender begins made at by = clocked_makes m p q (plain (Post post)) (tokens_of token) sender begins refl made by
+clocked_call m (on_queue.Send post) token p q mode moment sender begins made at by = clocked_makes m p q (bare_call (Post post)) (tokens_of token) sender begins refl made by
 clocked_call m (on_queue.Remove f) token p q mode moment sender begins made at by = clocked_makes m p q (Remove f) (tokens_of token) sender begins refl made by
 clocked_call m (on_queue.PostBarrier u) None p q mode moment sender begins made at by = absurd at
 clocked_call m (on_queue.PostBarrier u) (Some k) p q mode moment sender begins made at by = clocked_at m Barrier p q u mode (λ time at h. h) moment (bars_enter p q u k at) by
@@ -225,7 +225,7 @@ clocked_call m (on_queue.Quit safe u) token p q mode moment sender begins made a
 -- it is no earlier than it was asked for
 pub no_earlier_call : (m : Mode) (time : ℕ) (c : QueueCall) (token : Option ℕ) (p q : Sender) → IsInMode m p → IfTimed (λ u. IfFree m (time ≤ u)) c
     → (made : Makes p q (call_made c) (tokens_of token)) → IsAtItsMoment c token p q → IsNoEarlier m time made.entry.call
-no_earlier_call m time (on_queue.Send post) token p q mode late made at = no_moment_early m time made.entry.call (made_moment p q (plain (Post post)) (tokens_of token) made refl)
+no_earlier_call m time (on_queue.Send post) token p q mode late made at = no_moment_early m time made.entry.call (made_moment p q (bare_call (Post post)) (tokens_of token) made refl)
 no_earlier_call m time (on_queue.Remove f) token p q mode late made at = no_moment_early m time made.entry.call (made_moment p q (Remove f) (tokens_of token) made refl)
 no_earlier_call m time (on_queue.PostBarrier u) None p q mode late made at = absurd at
 no_earlier_call m time (on_queue.PostBarrier u) (Some k) p q mode late made at =

@@ -14,7 +14,7 @@ use Rattle.looper_run.specs.Holding.{Sender, State}
 use Rattle.looper_run.specs.Acts.{IsNoLookOf}
 use Rattle.looper_run.proofs.Working.{first_all}
 use Rattle.looper_run.proofs.Turning.{IsOther, found, all_first, no_looks}
-use Rattle.run_model.specs.Planned.{plain, token_in, entries_by}
+use Rattle.run_model.specs.Planned.{bare_call, token_in, entries_by}
 use Rattle.handler_post.specs.Ways.{MadeNone}
 use Rattle.dash_hall.specs.Slots.{GivesBackAll, KeepsSlots}
 use Rattle.dash_hall.specs.Growth.{own, GoesOn, TurnsOnce, Makes}
@@ -136,7 +136,7 @@ turns_none p q (inr turn) = one_turn p q turn.0 turn.0 turn.1
 
 -- a turn that entered one call of the sender, which is no look
 pub enters : (p q : Sender) (x y : State) (c : Call) (r : Reply) (a b : Tally) → IsTurn p q x y → y.entries ≡ x.entries ++ entry_of x p.sender c r ∷ [] → is_next c ≡ false → Keeps a b → KeepsSlots x y a b
-    → GoesOn p q a b × Makes p q (plain c) (token_in r)
+    → GoesOn p q a b × Makes p q (bare_call c) (token_in r)
 enters p q x y c r a b t left quiet k slots =
     let e = entry_of x p.sender c r in (
       turn_goes_on p q x y (e ∷ []) t left a b k t slots (all_first (IsNoLookOf p.sender) e [] (λ _. quiet) (λ n d near. absurd (omega (arith, near)))),

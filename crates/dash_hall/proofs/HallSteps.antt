@@ -13,8 +13,8 @@ use Rattle.dash_script.specs.declared.script.Script.{Script}
 use Rattle.shared_queue.specs.Known.{Shared, IsOf}
 use Rattle.shared_queue.specs.Ends.{AreNew, IsNewPoster}
 use Rattle.looper_run.specs.Holding.{Sender}
-use Rattle.choreographer.specs.Known.{Shared as Frames, Known as Pass, IsOf as IsOfFrames}
-use Rattle.choreographer.specs.Ends.{AreNew as AreNewPasses, IsNewPass}
+use Rattle.choreographer.specs.Known.{SharedFrames, Pass, IsPassOf}
+use Rattle.choreographer.specs.Ends.{AreNewPasses, IsNewPass}
 use Rattle.dash_hall.specs.declared.kit.Kit.{Kit}
 use Rattle.dash_hall.specs.Kits.{Badge, badge_of, badge_for, FrameBadge, frame_badge_of, frame_badge_for, frames_for}
 use Rattle.dash_hall.specs.Dealing.{Gets, EachGets, nothing, IsEmptyKit, IsNewKit, DealsPosters, DealsPasses, holder_of, given, given_of, AreUsedNowhere}
@@ -73,20 +73,20 @@ posters_all place posters orig kits is dealt q new =
 
 -- the passes with the first numbers have got to their kits
 abbrev pub PassesDealt : Script → ℕ → ℕ → List Pass → List Kit → List Kit → Type 0
-PassesDealt s looper number passes before after = (c : Frames) → AreNewPasses c passes → EachGets nothing (λ k. given s looper c k 0 number) before after
+PassesDealt s looper number passes before after = (c : SharedFrames) → AreNewPasses c passes → EachGets nothing (λ k. given s looper c k 0 number) before after
 
 pub passes_start : (s : Script) (looper : ℕ) (passes : List Pass) (kits : List Kit) → PassesDealt s looper 0 passes kits kits
 passes_start s looper passes kits c new = each_same nothing nothing nothing (λ k. given s looper c k 0 0) kits kits (λ k lt. refl) (λ k lt. refl) (each_start kits)
 
 -- what is known of the pass at this place of new ones
-new_pass : (passes yielded rest : List Pass) (p : Pass) (number : ℕ) (c : Frames) → yielded ++ p ∷ rest ≡ passes → number ≡ length yielded → AreNewPasses c passes → IsNewPass p × (frame_badge_of p ≡ frame_badge_for number c)
+new_pass : (passes yielded rest : List Pass) (p : Pass) (number : ℕ) (c : SharedFrames) → yielded ++ p ∷ rest ≡ passes → number ≡ length yielded → AreNewPasses c passes → IsNewPass p × (frame_badge_of p ≡ frame_badge_for number c)
 new_pass passes yielded rest p number c parts is new =
     let at = at_parts yielded rest passes p number parts is in
     let within = within_parts yielded rest passes p number parts is in
-    let of_frames : IsOfFrames p c × (p.number ≡ number) = subst (λ (x : Pass). IsOfFrames x c × (x.number ≡ number)) at (new.0 number p within) in
+    let of_frames : IsPassOf p c × (p.number ≡ number) = subst (λ (x : Pass). IsPassOf x c × (x.number ≡ number)) at (new.0 number p within) in
     (subst (λ (x : Pass). IsNewPass x) at (new.1 number p within), λ i. record { table = of_frames.0.0 i; constants = of_frames.0.1 i; number = of_frames.1 i })
 
-given_next : (s : Script) (looper number k : ℕ) (c : Frames) (p : Pass) → frame_badge_of p ≡ frame_badge_for number c → given s looper c k 0 number ++ only (holder_of s looper number) (frame_badge_of p ∷ []) k ≡ given s looper c k 0 (number + 1)
+given_next : (s : Script) (looper number k : ℕ) (c : SharedFrames) (p : Pass) → frame_badge_of p ≡ frame_badge_for number c → given s looper c k 0 number ++ only (holder_of s looper number) (frame_badge_of p ∷ []) k ≡ given s looper c k 0 (number + 1)
 given_next s looper number k c p is =
     let zeroth : 0 + number ≡ number = omega arith in
     ap (λ b. given s looper c k 0 number ++ only (holder_of s looper number) (b ∷ []) k) is
@@ -128,14 +128,14 @@ queues_more qs qs' q orig a b is before one =
     (each_more (λ k. map (badge_for k) qs) (λ k. badge_for k q ∷ []) nothing nothing orig a b before one)
 
 -- one choreographer more
-pub choreographers_more : (s : Script) (cs cs' : List Frames) (c : Frames) (n : ℕ) (orig a b : List Kit) → cs' ≡ cs ++ c ∷ [] → length cs ≡ n
+pub choreographers_more : (s : Script) (cs cs' : List SharedFrames) (c : SharedFrames) (n : ℕ) (orig a b : List Kit) → cs' ≡ cs ++ c ∷ [] → length cs ≡ n
     → EachGets nothing (given_all s 0 cs) orig a → EachGets nothing (given_of s n c) a b → EachGets nothing (given_all s 0 cs') orig b
 choreographers_more s cs cs' c n orig a b is count before one =
     let next : 0 + length cs ≡ n = omega (arith, count) in
     each_same _ nothing _ (given_all s 0 cs') orig b (λ k lt. refl) (λ k lt. sym (ap (λ l. given_all s 0 l k) is ∙ given_all-push s 0 cs c k n next))
     (each_more nothing nothing (given_all s 0 cs) (given_of s n c) orig a b before one)
 
-pub choreographers_all : (s : Script) (cs : List Frames) (orig kits : List Kit) → length cs ≡ s.loopers → length orig ≡ s.threads + s.loopers + 1
+pub choreographers_all : (s : Script) (cs : List SharedFrames) (orig kits : List Kit) → length cs ≡ s.loopers → length orig ≡ s.threads + s.loopers + 1
     → EachGets nothing (given_all s 0 cs) orig kits → EachGets nothing (frames_for s cs) orig kits
 choreographers_all s cs orig kits count senders dealt =
     each_same nothing nothing (given_all s 0 cs) (frames_for s cs) orig kits (λ k lt. refl) (λ k lt. given_are s cs k count (omega (arith, lt, senders))) dealt

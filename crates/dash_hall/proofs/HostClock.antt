@@ -16,8 +16,8 @@ use Rattle.queue_state.specs.Queue.{entry_of, moment_at}
 use Rattle.shared_queue.specs.Constants.{Constants}
 use Rattle.looper_run.specs.Holding.{Sender}
 use Rattle.looper_run.proofs.Turning.{found}
-use Rattle.run_model.specs.Planned.{plain, entries_by}
-use Rattle.run_model.specs.Moments.{Mode, IfFree, IsMoment, has_moment, IsOfClock, AreOfClockAfter}
+use Rattle.run_model.specs.Planned.{bare_call, entries_by}
+use Rattle.run_model.specs.Moments.{Mode, IfFree, IsMomentOf, has_moment, IsOfClock, AreOfClockAfter}
 use Rattle.handler_post.specs.declared.way.Sent.{Sent}
 use Rattle.handler_post.specs.declared.way.Sent.TheVariants.{Accepted as Took, Refused as Turned, NoMemory as NoRoom}
 use Rattle.dash_hall.specs.Growth.{own, GoesOn, Makes, BarsOf}
@@ -60,7 +60,7 @@ pub adds_call : (m : Mode) (p q : Sender) (a b : Tally) (c : Call) (tokens : Lis
 adds_call m p q a b c tokens g none made = adds_quiet m p q a b (made.entry ∷ []) g made.made (made_moment p q c tokens made none, tt)
 
 -- it posted a barrier at this moment
-pub adds_barrier : (m : Mode) (p q : Sender) (u token : ℕ) → m.lockstep ≡ false → IsInMode m p → IsMoment m u → BarsOf p q u token → AddsByClock m p q
+pub adds_barrier : (m : Mode) (p q : Sender) (u token : ℕ) → m.lockstep ≡ false → IsInMode m p → IsMomentOf m u → BarsOf p q u token → AddsByClock m p q
 adds_barrier m p q u token free mode moment bars = by_turn (bars_enter p q u token bars)
   where
     by_turn : EntersAt Barrier p q u → AddsByClock m p q
@@ -79,9 +79,9 @@ adds_barrier m p q u token free mode moment bars = by_turn (bars_enter p q u tok
 
 -- ---- what a host's calls add
 
-pub sent_adds : (u : ℕ) (p q : Sender) (a b : Tally) (letter : PostData) (r : Sent) → GoesOn p q a b → IfSent r (own q ≡ own p) (Makes p q (plain (Post letter)) []) → AddsAt u p q
-sent_adds u p q a b letter (Took number wake) g made = λ m free mode moment. adds_call m p q a b (plain (Post letter)) [] g refl made
-sent_adds u p q a b letter (Turned place) g made = λ m free mode moment. adds_call m p q a b (plain (Post letter)) [] g refl made
+pub sent_adds : (u : ℕ) (p q : Sender) (a b : Tally) (letter : PostData) (r : Sent) → GoesOn p q a b → IfSent r (own q ≡ own p) (Makes p q (bare_call (Post letter)) []) → AddsAt u p q
+sent_adds u p q a b letter (Took number wake) g made = λ m free mode moment. adds_call m p q a b (bare_call (Post letter)) [] g refl made
+sent_adds u p q a b letter (Turned place) g made = λ m free mode moment. adds_call m p q a b (bare_call (Post letter)) [] g refl made
 sent_adds u p q a b letter NoRoom g same = λ m free mode moment. adds_nothing m p q a b g same
 
 pub barred_adds : {E : Type 0} (u : ℕ) (p q : Sender) (a b : Tally) (r : Result ℕ E) → GoesOn p q a b → IfOk r (λ token. BarsOf p q u token) → OnErr r (own q ≡ own p) → AddsAt u p q

@@ -6,7 +6,7 @@ use mathlib.Core.Logic.{dite}
 use native.Mathlib.Decide.{ℕ_discrete}
 use Rattle.frame_phases.specs.declared.entry.FrameEntry.{FrameEntry}
 use Rattle.loop_model.proofs.Prefixes.{prefix_self, prefix_trans}
-use Rattle.choreographer.specs.Known.{Shared as Frames, Known as Pass, IsOf as IsFrameOf, HasOnlyHeard}
+use Rattle.choreographer.specs.Known.{SharedFrames, Pass, IsPassOf, HasOnlyHeard}
 use Rattle.choreographer.proofs.Quiet.{grows_self, grows_trans}
 use Rattle.dash_hall.specs.Kits.{frame_badge_of}
 use Rattle.dash_hall.specs.Hearing.{PassHasHeard, PassesHaveHeard, HasHeardAll, PassesHaveHeardAt, ArePassesReady, ArePassesKnown}
@@ -92,8 +92,8 @@ pub passes_known_more : (ps : List Pass) (i : ℕ) (xs ys : List (ℕ × FrameEn
 passes_known_more ps i xs ys p k = λ d. prefix_trans (get_or ps i d).view.heard xs ys (k d) p
 
 -- a pass that was read at a place is of the choreographer
-pub pass_ready_is : (ps : List Pass) (i : ℕ) (p : Pass) (c : Frames) → ArePassesReady i c ps → p ≡ get_or ps i p → IsFrameOf p c
-pass_ready_is ps i p c r is = subst (λ (x : Pass). IsFrameOf x c) (sym is) (r.1 p)
+pub pass_ready_is : (ps : List Pass) (i : ℕ) (p : Pass) (c : SharedFrames) → ArePassesReady i c ps → p ≡ get_or ps i p → IsPassOf p c
+pass_ready_is ps i p c r is = subst (λ (x : Pass). IsPassOf x c) (sym is) (r.1 p)
 
 -- what is known of a pass that was read at a place
 pub pass_known_is : (ps : List Pass) (i : ℕ) (p : Pass) (whole : List (ℕ × FrameEntry)) → ArePassesKnown i whole ps → p ≡ get_or ps i p → IsPrefix p.view.heard whole

@@ -14,9 +14,9 @@ use Rattle.looper_run.specs.Holding.{Sender, State}
 use Rattle.choreographer.specs.declared.host.Sending.{Sending as Told}
 use Rattle.choreographer.specs.declared.host.HostSent.{HostSent}
 use Rattle.choreographer.specs.declared.host.HostSent.TheVariants as host
-use Rattle.choreographer.specs.Host.{sent_by}
+use Rattle.choreographer.specs.Host.{added_sends}
 use Rattle.choreographer.specs.declared.hosted.Placed.{Placed}
-use Rattle.choreographer.specs.Known.{Known as Pass}
+use Rattle.choreographer.specs.Known.{Pass}
 use Rattle.choreographer.specs.Calls.{PostedBy as CallbackPostedBy}
 use Rattle.run_model.specs.FrameRecords.{nanos_of}
 use Rattle.handler_post.specs.declared.way.Sent.{Sent}
@@ -58,7 +58,7 @@ one_more id p q e made =
 if_so : {X : Type 0} (b : Bool) (x y : X) → b ≡ true → (if b then x else y) ≡ x
 if_so b x y is = ap (λ (t : Bool). if t then x else y) is
 
-pub told : (id : ℕ) (home : TableId) (m : PostData) (p q : Sender) (a b : Tally) (r : Sent) → is_sending id m ≡ true → Sending home m p q a b r → sends_by id q ≡ sends_by id p ++ sent_by m.what m.arg m.when (answer_by r)
+pub told : (id : ℕ) (home : TableId) (m : PostData) (p q : Sender) (a b : Tally) (r : Sent) → is_sending id m ≡ true → Sending home m p q a b r → sends_by id q ≡ sends_by id p ++ added_sends m.what m.arg m.when (answer_by r)
 told id home m p q a b (Took number wake) is (claim, (x, y, t, posts, accepted), o) =
     let e = entry_of x p.sender (Post (post_of (letter_of m claim).item)) (Accepted number) in
     let left : y.entries ≡ x.entries ++ e ∷ [] = ap (λ (w : State). w.entries) posts.2 in
@@ -73,7 +73,7 @@ told id home m p q a b NoRoom is (claim, none, o) =
 
 -- what a host's sending leaves
 pub sends_on : {U : Type 0} (o : HostOrigin U) (h : Handler) (v w : Way) (what arg when : ℕ) (r : Sent) → IsHost o v.poster.now v.pass.now → IsReady v → IsReady w → IsSameWay v w → Sends (record (message_by h what arg None when) { asynchronous = true }) v w r
-    → IsHost o w.poster.now w.pass.now × (sends_by h.id w.poster.now ≡ sends_by h.id v.poster.now ++ sent_by what arg when (answer_by r))
+    → IsHost o w.poster.now w.pass.now × (sends_by h.id w.poster.now ≡ sends_by h.id v.poster.now ++ added_sends what arg when (answer_by r))
 sends_on o h v w what arg when r is ready ready' same sent =
     let m = record (message_by h what arg None when) { asynchronous = true } in
     let mine : is_sending h.id m ≡ true = ap (λ (b : Bool). b && true && true && true) (eq-eqb h.id h.id refl) in
@@ -82,7 +82,7 @@ sends_on o h v w what arg when r is ready ready' same sent =
       told h.id v.pool.now m v.poster.now w.poster.now v.pass.now w.pass.now r mine sent,
     )
 
--- a callback that was placed by a host of this handler, and one for which memory was wanting
+-- a callback that was placed by a host of this handler, and one for which memory ran out
 pub placed_by : {A E : Type 0} (r : Placed) (res : Result A E) (f g : Pass) (u h k : ℕ) (p q : Sender) (phase id delay : ℕ) → k ≡ h → OnOk res (IsPlaced r) → CallbackPostedBy f g (λ n. n == nanos_of u) (sends_by h p) (sends_by k q) phase id None delay r
     → OnOk res (PlacesBy f g u (sends_by h p) (sends_by h q) phase id delay)
 placed_by r (Ok x) f g u h k p q phase id delay same ok turn = (r, ok, subst (λ (n : ℕ). CallbackPostedBy f g (λ m. m == nanos_of u) (sends_by h p) (sends_by n q) phase id None delay r) same turn)

@@ -8,7 +8,7 @@ use Rattle.loop_model.specs.declared.call.Call.{Call}
 use Rattle.loop_model.specs.declared.reply.Reply.{Reply}
 use Rattle.loop_model.specs.Entries.{ends_by}
 use Rattle.message_pool.specs.Passes.{Claimed, Node, Tally}
-use Rattle.message_pool.specs.Obtain.{Returned}
+use Rattle.message_pool.specs.Obtain.{IsReturned}
 use Rattle.queue_state.specs.Calls.{with_message}
 use Rattle.queue_state.specs.Ended.{ended, left}
 use Rattle.handler_post.specs.Supply.{slots_in, Obtains, ObtainsInVain, BringsBack}
@@ -30,7 +30,7 @@ obtained_counts : (home : TableId) (claim : Option Claimed) (a b : Tally) → Ob
 obtained_counts home None a b o = (let same : b.taken ≡ a.taken = o.3 in let all : b.taken ≡ a.taken + 0 = omega (arith, same) in all, o.2)
 obtained_counts home (Some c) a b (at, near, taken) = (taken.2, taken.3)
 
-returned_counts : (claim : Option Claimed) (a b : Tally) → Returned claim a b → (b.taken ≡ a.taken) × (b.back ≡ a.back + slots_by claim)
+returned_counts : (claim : Option Claimed) (a b : Tally) → IsReturned claim a b → (b.taken ≡ a.taken) × (b.back ≡ a.back + slots_by claim)
 returned_counts None a b same =
     let back : b.back ≡ a.back = ap (λ (t : Tally). t.back) same in
     (ap (λ (t : Tally). t.taken) same, let all : b.back ≡ a.back + 0 = omega (arith, back) in all)
@@ -52,7 +52,7 @@ in_vain_gives_back home (Some c) a b o =
     let all : b.taken + a.back ≡ a.taken + b.back = omega (arith, taken, back) in
     all
 
-pub returned_gives_back : (home : TableId) (claim : Option Claimed) (a b c : Tally) → Obtains home claim a b → Returned claim b c → GivesBackAll a c
+pub returned_gives_back : (home : TableId) (claim : Option Claimed) (a b c : Tally) → Obtains home claim a b → IsReturned claim b c → GivesBackAll a c
 returned_gives_back home claim a b c o r =
     let had = obtained_counts home claim a b o in
     let gave = returned_counts claim b c r in
@@ -94,7 +94,7 @@ some_gone c r x y nodes a b gone rest brought =
     all
 
 -- the one that an entry ended went back
-pub one_gone : (c : Call) (r : Reply) (x y : State) (m : Node) (a b : Tally) → ended c r x.messages ≡ m ∷ [] → y.messages ≡ left c r x.messages → Returned m.claim a b → KeepsSlots x y a b
+pub one_gone : (c : Call) (r : Reply) (x y : State) (m : Node) (a b : Tally) → ended c r x.messages ≡ m ∷ [] → y.messages ≡ left c r x.messages → IsReturned m.claim a b → KeepsSlots x y a b
 one_gone c r x y m a b gone rest back =
     let gave = returned_counts m.claim a b back in
     let n = slots_by m.claim in

@@ -4,7 +4,7 @@ use Rattle.atomic_table.specs.Seated.{TableId}
 use Rattle.loop_model.specs.declared.entry.Entry.{Entry}
 use Rattle.shared_queue.specs.Constants.{Constants}
 use Rattle.looper_run.specs.Holding.{Sender}
-use Rattle.run_model.specs.Moments.{Mode, IfFree, IsMoment, AreOfClockAfter}
+use Rattle.run_model.specs.Moments.{Mode, IfFree, IsMomentOf, AreOfClockAfter}
 use Rattle.run_model.specs.Parts.{AreOfClock}
 
 -- the entry is this sender's
@@ -27,4 +27,4 @@ pub record AddsByClock (m : Mode) (before after : Sender) : Type 0 where
 
 -- so it is in each free mode of the queue in which this is a moment of the clock
 abbrev pub AddsAt : ℕ → Sender → Sender → Type 0
-AddsAt u before after = (m : Mode) → m.lockstep ≡ false → IsInMode m before → IsMoment m u → AddsByClock m before after
+AddsAt u before after = (m : Mode) → m.lockstep ≡ false → IsInMode m before → IsMomentOf m u → AddsByClock m before after

@@ -6,8 +6,8 @@ use Rattle.shared_queue.specs.Known.{Shared}
 use Rattle.message_pool.specs.Passes.{Tally}
 use Rattle.shared_queue.specs.Ends.{AreNew, IsNewPoster}
 use Rattle.looper_run.specs.Holding.{Sender}
-use Rattle.choreographer.specs.Known.{Shared as Frames, Known as Pass}
-use Rattle.choreographer.specs.Ends.{AreNew as AreNewPasses, IsNewPass}
+use Rattle.choreographer.specs.Known.{SharedFrames, Pass}
+use Rattle.choreographer.specs.Ends.{AreNewPasses, IsNewPass}
 use Rattle.dash_hall.specs.declared.kit.Kit.{Kit}
 use Rattle.dash_hall.specs.declared.hall.Hall.{Hall}
 use Rattle.dash_hall.specs.Kits.{IsHall, AreKitsOf, Badge, badge_of, badge_for, FrameBadge, frame_badge_of, frame_badge_for}
@@ -66,19 +66,19 @@ holder_of s looper number =
     else s.threads + s.loopers
 
 -- of the passes of a looper's choreographer with these numbers, `count` of them from `from` on, those that sender k has
-abbrev pub given : Script → ℕ → Frames → ℕ → ℕ → ℕ → List FrameBadge
+abbrev pub given : Script → ℕ → SharedFrames → ℕ → ℕ → ℕ → List FrameBadge
 given s looper c k from zero = []
 given s looper c k from (suc count) =
     (if holder_of s looper from == k then frame_badge_for from c ∷ [] else []) ++ given s looper c k (from + 1) count
 
 -- of all passes of a looper's choreographer, those that sender k has
-abbrev pub given_of : Script → ℕ → Frames → ℕ → List FrameBadge
+abbrev pub given_of : Script → ℕ → SharedFrames → ℕ → List FrameBadge
 given_of s looper c k = given s looper c k 0 (s.threads + 3)
 
 -- where the passes are new ones of a looper's choreographer, each kit got those that its sender has
 abbrev pub DealsPasses : Script → ℕ → List Pass → List Kit → List Kit → Type 0
 DealsPasses s looper passes before after =
-    (c : Frames) → AreNewPasses c passes → EachGets nothing (given_of s looper c) before after
+    (c : SharedFrames) → AreNewPasses c passes → EachGets nothing (given_of s looper c) before after
 
 -- the kit gave its first poster
 pub record GivesPoster (before : Kit) (poster : Sender) (after : Kit) : Type 0 where

@@ -12,7 +12,7 @@ use Rattle.shared_queue.specs.Calls.{BarrierPostedBy, QuitBy}
 use Rattle.handler_post.specs.Supply.{BringsBack}
 use Rattle.looper_run.specs.Holding.{Sender}
 use Rattle.looper_run.specs.Acts.{IsNoLookOf}
-use Rattle.run_model.specs.Planned.{plain, token_in, entries_by}
+use Rattle.run_model.specs.Planned.{bare_call, token_in, entries_by}
 use Rattle.handler_post.specs.Ways.{KeptWay as Way, IsReady, IsSameWay, MadeNone}
 use Rattle.dash_hall.specs.Slots.{LosesNoSlot}
 
@@ -52,7 +52,7 @@ TurnsOnce before after = after.view.turns ≤ before.view.turns + 1
 pub record Makes (before after : Sender) (call : Call) (tokens : List ℕ) : Type 0 where
   pub entry : Entry
   pub made : own after ≡ own before ++ entry ∷ []
-  pub makes : plain entry.call ≡ call
+  pub makes : bare_call entry.call ≡ call
   pub answered : token_in entry.reply ≡ tokens
 
 -- the tokens of a call that is answered none
@@ -64,7 +64,7 @@ abbrev pub one_token : ℕ → List ℕ
 one_token token = token ∷ []
 
 -- by at most one turn the sender made this call, with the tokens of the answer; at an error it made no entry
-pub record Called {A E : Type 0} (before after : Sender) (pass pass' : Tally) (call : Call) (tokens : A → List ℕ) (result : Result A E) : Type 0 where
+pub record CallsOnce {A E : Type 0} (before after : Sender) (pass pass' : Tally) (call : Call) (tokens : A → List ℕ) (result : Result A E) : Type 0 where
   pub on : GoesOn before after pass pass'
   pub once : TurnsOnce before after
   pub made : IfOk result (λ answer. Makes before after call (tokens answer))
@@ -75,7 +75,7 @@ pub record Called {A E : Type 0} (before after : Sender) (pass pass' : Tally) (c
 pub record WayCalled {A E : Type 0} (before after : Way) (call : Call) (tokens : A → List ℕ) (result : Result A E) : Type 0 where
   pub ready : IsReady after
   pub same : IsSameWay before after
-  pub by : Called before.poster.now after.poster.now before.pass.now after.pass.now call tokens result
+  pub by : CallsOnce before.poster.now after.poster.now before.pass.now after.pass.now call tokens result
 
 -- one turn that posted a barrier of this token at this moment
 abbrev pub BarsOf : Sender → Sender → ℕ → ℕ → Type 0

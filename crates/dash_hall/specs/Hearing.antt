@@ -6,7 +6,7 @@ use Rattle.loop_model.specs.declared.entry.Entry.{Entry}
 use Rattle.shared_queue.specs.Known.{Shared, IsOf, IsSamePoster}
 use Rattle.looper_run.specs.Holding.{Sender}
 use Rattle.frame_phases.specs.declared.entry.FrameEntry.{FrameEntry}
-use Rattle.choreographer.specs.Known.{Shared as Frames, Known as Pass, IsOf as IsFrameOf, HasHeardWho, HasOnlyHeard}
+use Rattle.choreographer.specs.Known.{SharedFrames, Pass, IsPassOf, HasHeardWho, HasOnlyHeard}
 use Rattle.dash_hall.specs.Growth.{own}
 
 -- what these posters have seen of their queues' histories, in order
@@ -84,8 +84,8 @@ pub record PassesHaveHeardAt (place : ℕ) (whole : List (ℕ × FrameEntry)) (b
   pub elsewhere : (q : ℕ) (d : Pass) → q ≢ place → slice_index_or after q d ≡ slice_index_or before q d
 
 -- there is a pass at this place, of this choreographer
-abbrev pub ArePassesReady : ℕ → Frames → List Pass → Type 0
-ArePassesReady place c passes = (place < length passes) × ((d : Pass) → IsFrameOf (slice_index_or passes place d) c)
+abbrev pub ArePassesReady : ℕ → SharedFrames → List Pass → Type 0
+ArePassesReady place c passes = (place < length passes) × ((d : Pass) → IsPassOf (slice_index_or passes place d) c)
 
 -- this goes on from what the pass at this place has heard
 abbrev pub ArePassesKnown : ℕ → List (ℕ × FrameEntry) → List Pass → Type 0

@@ -14,7 +14,7 @@ use Rattle.choreographer.specs.declared.host.Sending.{Sending}
 use Rattle.choreographer.specs.declared.host.HostSent.TheVariants as host
 use Rattle.choreographer.specs.declared.hosted.Placed.{Placed}
 use Rattle.choreographer.specs.declared.hosted.Placed.TheVariants as placed
-use Rattle.choreographer.specs.Known.{Known as Pass}
+use Rattle.choreographer.specs.Known.{Pass}
 use Rattle.choreographer.specs.Calls.{PostedBy as CallbackPostedBy}
 use Rattle.run_model.specs.Planned.{frame_due}
 use Rattle.run_model.specs.FrameRecords.{nanos_of, FrameAsk, Posts, asks_in}
@@ -111,7 +111,7 @@ IsPlaced placed.Already = Unit {0}
 IsPlaced placed.Refused = Unit {0}
 IsPlaced placed.NoMemory = ⊥
 
--- memory was wanting as a callback was placed
+-- memory ran out as a callback was placed
 abbrev pub IsUnplaced : Placed → Type 0
 IsUnplaced placed.Asked = ⊥
 IsUnplaced placed.Sent = ⊥
@@ -124,18 +124,18 @@ abbrev pub PlacesBy : Pass → Pass → ℕ → List Sending → List Sending �
 PlacesBy before after u sends sends' phase id delay =
     (r : Placed) × IsPlaced r × CallbackPostedBy before after (λ n. n == nanos_of u) sends sends' phase id None delay r
 
--- memory was wanting as a frame callback was placed: nothing was sent, and at most the posting itself was done
+-- memory ran out as a frame callback was placed: nothing was sent, and at most the posting itself was done
 abbrev pub PlacesNot : Pass → Pass → ℕ → List Sending → List Sending → ℕ → ℕ → ℕ → Type 0
 PlacesNot before after u sends sends' phase id delay =
     (r : Placed) × IsUnplaced r × CallbackPostedBy before after (λ n. n == nanos_of u) sends sends' phase id None delay r
 
 -- what the turns of a pass asked its choreographer for, in order
-abbrev pub asks_of : Pass → List FrameAsk
-asks_of p = asks_in p.view.own
+abbrev pub pass_asks : Pass → List FrameAsk
+pass_asks p = asks_in p.view.own
 
 -- the pass asked for this too, and for nothing else
 abbrev pub AsksFor : FrameAsk → Pass → Pass → Type 0
-AsksFor ask before after = asks_of after ≡ asks_of before ++ ask ∷ []
+AsksFor ask before after = pass_asks after ≡ pass_asks before ++ ask ∷ []
 
 -- a frame callback was posted by this handler in one turn, at an uptime with a delay: with a delay the sender posted the message for its due time, and else it
 -- made no call

@@ -11,7 +11,7 @@ use Rattle.shared_queue.specs.Constants.{Constants}
 use Rattle.shared_queue.specs.Known.{Shared}
 use Rattle.looper_run.specs.Holding.{Sender}
 use Rattle.choreographer.specs.declared.view.Constants.{Constants as FrameConstants}
-use Rattle.choreographer.specs.Known.{Shared as Frames, Known as Pass}
+use Rattle.choreographer.specs.Known.{SharedFrames, Pass}
 use Rattle.run_model.specs.Planned.{sender_count}
 use Rattle.dash_hall.specs.declared.hall.Hall.{Hall}
 use Rattle.dash_hall.specs.declared.kit.Kit.{Kit}
@@ -41,11 +41,11 @@ pub record FrameBadge : Type 0 where
 abbrev pub frame_badge_of : Pass → FrameBadge
 frame_badge_of p = record { table = p.table; constants = p.view.constants; number = p.number }
 
-abbrev pub frame_badge_for : ℕ → Frames → FrameBadge
+abbrev pub frame_badge_for : ℕ → SharedFrames → FrameBadge
 frame_badge_for number c = record { table = c.table; constants = Some c.constants; number = number }
 
 -- the passes have this number, one of each choreographer and in order
-abbrev pub ArePassesOf : ℕ → List Frames → List Pass → Type 0
+abbrev pub ArePassesOf : ℕ → List SharedFrames → List Pass → Type 0
 ArePassesOf number choreographers passes = map frame_badge_of passes ≡ map (frame_badge_for number) choreographers
 
 -- what stays the same in a looper's queue: in lockstep or not, main for looper 0 alone, its messages of this pool
@@ -62,7 +62,7 @@ frame_constants s looper =
 abbrev pub queue_key : Shared TableId → Constants TableId
 queue_key q = q.constants
 
-abbrev pub frame_key : Frames → FrameConstants
+abbrev pub frame_key : SharedFrames → FrameConstants
 frame_key c = c.constants
 
 -- each looper has its queue, in order
@@ -70,7 +70,7 @@ abbrev pub AreQueuesOf : Bool → Script → TableId → List (Shared TableId) �
 AreQueuesOf lockstep s pool queues = map queue_key queues ≡ map (queue_constants lockstep s pool) (range_with_len 0 s.loopers)
 
 -- each looper has its choreographer, in order
-abbrev pub AreChoreographersOf : Script → List Frames → Type 0
+abbrev pub AreChoreographersOf : Script → List SharedFrames → Type 0
 AreChoreographersOf s cs = map frame_key cs ≡ map (frame_constants s) (range_with_len 0 s.loopers)
 
 -- the queues, choreographers and sources of the script's loopers, with one pool
@@ -80,12 +80,12 @@ pub record IsHall (s : Script) (hall : Hall) : Type 0 where
   pub sources : length hall.sources.items ≡ s.loopers
 
 -- a looper's two passes of its own choreographer
-abbrev pub looper_frames : ℕ → Option Frames → List FrameBadge
+abbrev pub looper_frames : ℕ → Option SharedFrames → List FrameBadge
 looper_frames number None = []
 looper_frames number (Some c) = frame_badge_for number c ∷ frame_badge_for (number + 1) c ∷ []
 
 -- the passes that a sender has: a thread and the controller one of each choreographer, a looper two of its own
-abbrev pub frames_for : Script → List Frames → ℕ → List FrameBadge
+abbrev pub frames_for : Script → List SharedFrames → ℕ → List FrameBadge
 frames_for s cs k =
     if nat_lt k s.threads then map (frame_badge_for k) cs
     else if nat_lt k (s.threads + s.loopers) then looper_frames s.threads (slice_get cs (k - s.threads))

@@ -9,7 +9,7 @@ use Rattle.handler_post.specs.declared.way.Sent.TheVariants.{Accepted, Refused, 
 use Rattle.handler_post.specs.declared.way.Erased.{Erased}
 use Rattle.handler_post.specs.declared.way.Erased.TheVariants.{Removed, NoMemory as NoRoom}
 use Rattle.looper_run.specs.Holding.{Sender}
-use Rattle.run_model.specs.Planned.{plain}
+use Rattle.run_model.specs.Planned.{bare_call}
 use Rattle.dash_hall.specs.Growth.{BarsOf, QuitsOf}
 use Rattle.dash_hall.specs.declared.calls.QueueCall.{QueueCall}
 use Rattle.dash_hall.specs.declared.calls.QueueCall.TheVariants as on_queue
@@ -27,7 +27,7 @@ IfErased (Removed count) P Q = Q
 
 -- a call on a queue, without what is left open: the slot of a message, and the moment of a barrier or a quit
 abbrev pub call_made : QueueCall → Call
-call_made (on_queue.Send post) = plain (Post post)
+call_made (on_queue.Send post) = bare_call (Post post)
 call_made (on_queue.Remove filter) = Remove filter
 call_made (on_queue.PostBarrier now) = Barrier 0
 call_made (on_queue.RemoveBarrier token) = Unbarrier token
@@ -60,7 +60,7 @@ IsRefusedQuit (on_queue.PostBarrier now) before after = Unit {0}
 IsRefusedQuit (on_queue.RemoveBarrier barrier) before after = Unit {0}
 IsRefusedQuit (on_queue.Quit safe now) before after = QuitBy before after safe now quitting.NoMemory
 
--- by its answer: where memory was wanting a quit was refused; where a call was made it was made at its moment, and has a token just where it posts a barrier
+-- by its answer: where memory ran out a quit was refused; where a call was made it was made at its moment, and has a token just where it posts a barrier
 pub record AnswersCall {E : Type 0} (call : QueueCall) (before after : Sender) (result : Result (Option ℕ) E) : Type 0 where
   pub refused : OnErr result (IsRefusedQuit call before after)
   pub token : IfOk result (λ token. is_some token ≡ posts_barrier call)

@@ -2,8 +2,8 @@
 ghost use Rattle.std.specs.Prelude.{OnOk, OnErr};
 ghost use Rattle.loop_model.specs.declared.call.Call.TheVariants.{Post as Posts, Remove};
 ghost use Rattle.handler_post.specs.Ways.{IsReady};
-ghost use Rattle.run_model.specs.Planned.{plain};
-ghost use Rattle.dash_hall.specs.Growth.{Called, WayCalled, MayCall, no_token};
+ghost use Rattle.run_model.specs.Planned.{bare_call};
+ghost use Rattle.dash_hall.specs.Growth.{CallsOnce, WayCalled, MayCall, no_token};
 ghost use Rattle.dash_hall.specs.QueueCalls.{call_made, tokens_of, AnswersCall, IfSent, IfErased};
 
 use crate::barriers::{post_barrier, quit, remove_barrier};
@@ -41,7 +41,7 @@ pub fn perform<R: Wait>(
     call: QueueCall,
 ) -> Result<Option<u64>, NoMemory>
     requires { MayCall queue.now pool.now poster.old pass.old }
-    ensures called { Called poster.old poster.new pass.old pass.new (call_made call) tokens_of result }
+    ensures called { CallsOnce poster.old poster.new pass.old pass.new (call_made call) tokens_of result }
     ensures answered { AnswersCall call poster.old poster.new result }
 {
     let mut way = Way {
@@ -66,7 +66,7 @@ pub fn perform<R: Wait>(
 /// Sends this message. A refusal stands in the history. NoMemory where it found none: then it made no call.
 pub fn send<R: Wait>(rt: &R, alloc: Global, way: &mut Way, post: &Post) -> Result<(), NoMemory>
     requires { IsReady way.old }
-    ensures called { WayCalled way.old way.new (plain (Posts post.now)) no_token result }
+    ensures called { WayCalled way.old way.new (bare_call (Posts post.now)) no_token result }
 {
     sent(way.send(rt, alloc, post))
 }

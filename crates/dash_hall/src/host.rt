@@ -2,9 +2,9 @@
 ghost use Rattle.std.specs.Prelude.{◌≡◌, ◌<◌, IfOk, OnOk, OnErr};
 ghost use mathlib.Core.List.{IsPrefix};
 ghost use Rattle.loop_model.specs.declared.call.Call.TheVariants.{Barrier, Unbarrier};
-ghost use Rattle.choreographer.specs.Known.{IsOf as IsFrameOf, MayDeliver};
+ghost use Rattle.choreographer.specs.Known.{IsPassOf, MayDeliver};
 ghost use Rattle.choreographer.specs.Calls.{PulsedBy, HasPulse, DueBy, stamp_in};
-ghost use Rattle.dash_hall.specs.Growth.{GoesOn, Called, no_token, one_token, BarsOf};
+ghost use Rattle.dash_hall.specs.Growth.{GoesOn, CallsOnce, no_token, one_token, BarsOf};
 ghost use Rattle.dash_hall.specs.Kits.{frame_badge_of};
 ghost use Rattle.dash_hall.specs.Hosts.{HostOrigin, origin_now, IsHostNow, StaysHost, sends_of, IsPlaced, IsUnplaced, PlacesBy, PlacesNot};
 
@@ -89,7 +89,7 @@ impl<'a, R: Wait, U: Uptime> Host<'a, R, U> {
     pub fn post_barrier(&mut self) -> Result<u64, NoMemory>
         requires { IsHostNow self.old }
         ensures stays { StaysHost self.old self.new }
-        ensures called { Called self.old.poster.now self.new.poster.now self.old.pass.now self.new.pass.now (Barrier 0) one_token result }
+        ensures called { CallsOnce self.old.poster.now self.new.poster.now self.old.pass.now self.new.pass.now (Barrier 0) one_token result }
         ensures turn { IfOk result (λ token. BarsOf self.old.poster.now self.new.poster.now self.old.now token) }
     {
         let mut way = Way {
@@ -105,7 +105,7 @@ impl<'a, R: Wait, U: Uptime> Host<'a, R, U> {
     pub fn remove_barrier(&mut self, token: u64) -> Result<(), NoMemory>
         requires { IsHostNow self.old }
         ensures stays { StaysHost self.old self.new }
-        ensures called { Called self.old.poster.now self.new.poster.now self.old.pass.now self.new.pass.now (Unbarrier token) no_token result }
+        ensures called { CallsOnce self.old.poster.now self.new.poster.now self.old.pass.now self.new.pass.now (Unbarrier token) no_token result }
     {
         let mut way = Way {
             queue: self.queue,
@@ -120,7 +120,7 @@ impl<'a, R: Wait, U: Uptime> Host<'a, R, U> {
     /// yet. The pass is one of the choreographer, and the one that alone delivers pulses, where there is such a one.
     pub fn deliver(&mut self, c: &Choreographer, pass: &mut FramePass) -> Option<Pulse>
         requires ready { IsHostNow self.old }
-        requires pass { IsFrameOf pass.old c.now }
+        requires pass { IsPassOf pass.old c.now }
         requires delivers { MayDeliver pass.old c.now }
         ensures stays { StaysHost self.old self.new }
         ensures pass { frame_badge_of pass.new ≡ frame_badge_of pass.old }
@@ -134,7 +134,7 @@ impl<'a, R: Wait, U: Uptime> Host<'a, R, U> {
     /// AOSP's `Choreographer`). The pass is one of the choreographer, and the phase one of its phases.
     pub fn on_due(&mut self, c: &Choreographer, pass: &mut FramePass, phase: u32) -> bool
         requires ready { IsHostNow self.old }
-        requires pass { IsFrameOf pass.old c.now × (phase < c.now.constants.phases) }
+        requires pass { IsPassOf pass.old c.now × (phase < c.now.constants.phases) }
         ensures stays { StaysHost self.old self.new }
         ensures pass { frame_badge_of pass.new ≡ frame_badge_of pass.old }
         ensures due { DueBy pass.old pass.new (U.is_moment self.old.uptime.now) phase result }
@@ -155,7 +155,7 @@ impl<'a, R: Wait, U: Uptime> Host<'a, R, U> {
         delay: u64,
     ) -> Result<(), NoMemory>
         requires ready { IsHostNow self.old }
-        requires pass { IsFrameOf pass.old c.now × (phase < c.now.constants.phases) }
+        requires pass { IsPassOf pass.old c.now × (phase < c.now.constants.phases) }
         ensures stays { StaysHost self.old self.new }
         ensures pass { frame_badge_of pass.new ≡ frame_badge_of pass.old }
         ensures on { GoesOn self.old.poster.now self.new.poster.now self.old.pass.now self.new.pass.now }
@@ -182,7 +182,7 @@ impl<'a, R: Wait, U: Uptime> Host<'a, R, U> {
     }
 }
 
-/// Ok unless memory was wanting.
+/// Ok unless memory ran out.
 fn placed(answer: Placed) -> Result<(), NoMemory>
     ensures ok { OnOk result (IsPlaced answer) }
     ensures err { OnErr result (IsUnplaced answer) }

@@ -13,22 +13,22 @@ use Rattle.frame_phases.specs.declared.entry.Callback.{Callback}
 use Rattle.frame_phases.specs.declared.entry.FrameEntry.{FrameEntry}
 use Rattle.frame_phases.specs.declared.entry.FrameEntry.TheVariants.{Posted, Removed, Begin, Take, Ran}
 use Rattle.loop_model.specs.Items.{is_just}
-use Rattle.frame_phases.specs.Frames.{lawful, all_allowed, is_allowed, is_settled, owed, posted_count, next_phase, live, taken, number_of, is_due, is_undue, is_unmatched}
+use Rattle.frame_phases.specs.Frames.{lawful, all_allowed, is_allowed, is_settled, owed_callbacks, posted_count, next_phase, live_callbacks, taken_callbacks, callback_number, is_due, is_undue, is_unmatched}
 use Rattle.frame_phases.proofs.EndsOfFrames.{allowed_before}
 use Rattle.frame_phases.specs.State.{Frames, past as past_of}
 use Rattle.choreographer.specs.declared.kept.Kept.{Kept}
 use Rattle.choreographer.specs.declared.frame.Framed.{Framed}
 use Rattle.choreographer.specs.declared.frame.Framed.TheVariants.{Done, Elsewhere, Unscheduled, Backwards, NoMemory}
-use Rattle.choreographer.specs.Known.{Known as Pass, IsTurn}
+use Rattle.choreographer.specs.Known.{Pass, IsFrameTurn}
 use Rattle.choreographer.specs.Client.{Run}
 use Rattle.choreographer.specs.Frame.{Batch, begin_place, ran_since, batches_since}
-use Rattle.choreographer.specs.Done.{runs, runs_of, numbers_of, AreBatches, AddsFrame, FramedBy, RecordsBy, EndsWait, UnlessNoMemory}
+use Rattle.choreographer.specs.Done.{runs, runs_of, batch_numbers, AreBatches, AddsFrame, FramedBy, RecordsBy, EndsWait, UnlessNoMemory}
 use Rattle.choreographer.proofs.Recorded.{frame_tells}
 use Rattle.loop_model.proofs.Prefixes.{prefix_trans, prefix_length}
 use Rattle.run_model.specs.FrameRecords.{frame_ids, is_frame_from, begins_with, has_stamp, is_begin, posted_id, ran_id, moment_in, frame_moments, Runs}
 use Rattle.run_model.specs.FrameRecords.{asked_in, asks_in}
 use Rattle.run_model.proofs.FrameKeeping.{all-reverse, all-in_due_order, posted_in, posted-reverse, before_first-step, told_before, KeepsFrames-lawful}
-use Rattle.dash_hall.specs.Hosts.{asks_of}
+use Rattle.dash_hall.specs.Hosts.{pass_asks}
 use Rattle.choreographer.proofs.InTime.{frame_up_to, never_back}
 use Rattle.dash_loopers.specs.Played.{RanFrame, RunsInTime, HasLatest, ids_of}
 use Rattle.dash_loopers.proofs.LooperLists.{at_seam}
@@ -114,20 +114,20 @@ unposted : (e : FrameEntry) (past : List FrameEntry) → posted_id e ≡ None �
 unposted e past isnt = ids_pushed e past ∙ (ap (λ o. ids_in past ++ cons_option o []) isnt ∙ append-nil (ids_in past))
 
 module _ (interval phases : ℕ) (ids : List ℕ) where
-  live_posted : (past : List FrameEntry) (more : List ℕ) → ids ≡ ids_in past ++ more → all_allowed interval phases past ≡ true → AllByRecursion (IsPosted ids) (live past)
-  unfolding all_allowed is_allowed live
+  live_posted : (past : List FrameEntry) (more : List ℕ) → ids ≡ ids_in past ++ more → all_allowed interval phases past ≡ true → AllByRecursion (IsPosted ids) (live_callbacks past)
+  unfolding all_allowed is_allowed live_callbacks
   live_posted [] more is h = tt
   live_posted (Posted c ∷ past) more is h =
       let parts = and_parts _ _ h in
       let number : c.number ≡ length (ids_in past) = eqb-true c.number (posted_count past) (and_parts _ _ (and_parts _ _ parts.1).0).1 ∙ (sym (posted-reverse past) ∙ posted_in (reverse past)) in
       let is' : ids ≡ ids_in past ++ c.id ∷ more = is ∙ (ap (λ l. l ++ more) (ids_pushed (Posted c) past) ∙ append_assoc (ids_in past) (c.id ∷ []) more) in
       let mine : slice_get ids c.number ≡ Some c.id = (λ i. slice_get (is' i) (number i)) ∙ at_seam (ids_in past) c.id more in
-      AllByRecursion-append (IsPosted ids) (live past) (c ∷ []) (live_posted past (c.id ∷ more) is' parts.0) (mine, tt)
+      AllByRecursion-append (IsPosted ids) (live_callbacks past) (c ∷ []) (live_posted past (c.id ∷ more) is' parts.0) (mine, tt)
   live_posted (Removed phase id token n ∷ past) more is h =
-      AllByRecursion-filter (IsPosted ids) (is_unmatched phase id token) (live past) (live_posted past more (is ∙ ap (λ l. l ++ more) (unposted (Removed phase id token n) past refl)) (and_parts _ _ h).0)
+      AllByRecursion-filter (IsPosted ids) (is_unmatched phase id token) (live_callbacks past) (live_posted past more (is ∙ ap (λ l. l ++ more) (unposted (Removed phase id token n) past refl)) (and_parts _ _ h).0)
   live_posted (Begin v s t ∷ past) more is h = live_posted past more (is ∙ ap (λ l. l ++ more) (unposted (Begin v s t) past refl)) (and_parts _ _ h).0
   live_posted (Take phase now t ∷ past) more is h =
-      AllByRecursion-filter (IsPosted ids) (is_undue phase (now / 1000000)) (live past) (live_posted past more (is ∙ ap (λ l. l ++ more) (unposted (Take phase now t) past refl)) (and_parts _ _ h).0)
+      AllByRecursion-filter (IsPosted ids) (is_undue phase (now / 1000000)) (live_callbacks past) (live_posted past more (is ∙ ap (λ l. l ++ more) (unposted (Take phase now t) past refl)) (and_parts _ _ h).0)
   live_posted (Ran n ∷ past) more is h = live_posted past more (is ∙ ap (λ l. l ++ more) (unposted (Ran n) past refl)) (and_parts _ _ h).0
 
   batches_posted : (past : List FrameEntry) (more : List ℕ) → ids ≡ ids_in past ++ more → all_allowed interval phases past ≡ true → ArePosted ids (batches_since past)
@@ -140,20 +140,20 @@ module _ (interval phases : ℕ) (ids : List ℕ) where
   batches_posted (Take phase now t ∷ past) more is h =
       let before : ids ≡ ids_in past ++ more = is ∙ ap (λ l. l ++ more) (unposted (Take phase now t) past refl) in
       let allowed = (and_parts _ _ h).0 in
-      let mine = all-in_due_order (IsPosted ids) _ (AllByRecursion-filter (IsPosted ids) (is_due phase (now / 1000000)) (live past) (live_posted past more before allowed)) in
-      AllByRecursion-append (λ (b : Batch). AllByRecursion (IsPosted ids) b.callbacks) (batches_since past) (record { now = now; time = t; callbacks = taken past phase now } ∷ []) (batches_posted past more before allowed) (mine, tt)
+      let mine = all-in_due_order (IsPosted ids) _ (AllByRecursion-filter (IsPosted ids) (is_due phase (now / 1000000)) (live_callbacks past) (live_posted past more before allowed)) in
+      AllByRecursion-append (λ (b : Batch). AllByRecursion (IsPosted ids) b.callbacks) (batches_since past) (record { now = now; time = t; callbacks = taken_callbacks past phase now } ∷ []) (batches_posted past more before allowed) (mine, tt)
   batches_posted (Ran n ∷ past) more is h = batches_posted past more (is ∙ ap (λ l. l ++ more) (unposted (Ran n) past refl)) (and_parts _ _ h).0
 
-  ids_of_batch : (time : ℕ) (cs : List Callback) → AllByRecursion (IsPosted ids) cs → filter_map (λ n. slice_get ids n) (map number_of cs) ≡ ids_of (runs time cs)
+  ids_of_batch : (time : ℕ) (cs : List Callback) → AllByRecursion (IsPosted ids) cs → filter_map (λ n. slice_get ids n) (map callback_number cs) ≡ ids_of (runs time cs)
   ids_of_batch time [] h = refl
-  ids_of_batch time (c ∷ cs) h = ap (λ o. cons_option o (filter_map (λ n. slice_get ids n) (map number_of cs))) h.0 ∙ ap (λ l. c.id ∷ l) (ids_of_batch time cs h.1)
+  ids_of_batch time (c ∷ cs) h = ap (λ o. cons_option o (filter_map (λ n. slice_get ids n) (map callback_number cs))) h.0 ∙ ap (λ l. c.id ∷ l) (ids_of_batch time cs h.1)
 
-  ids_of_batches : (bs : List Batch) → ArePosted ids bs → filter_map (λ n. slice_get ids n) (numbers_of bs) ≡ ids_of (runs_of bs)
+  ids_of_batches : (bs : List Batch) → ArePosted ids bs → filter_map (λ n. slice_get ids n) (batch_numbers bs) ≡ ids_of (runs_of bs)
   ids_of_batches [] h = refl
   ids_of_batches (b ∷ bs) h =
       let one = ids_of_batch b.time b.callbacks h.0 in
       let rest = ids_of_batches bs h.1 in
-      filter_map-append (λ n. slice_get ids n) (map number_of b.callbacks) (numbers_of bs) ∙ ((λ i. one i ++ rest i) ∙ sym (map-append (λ (r : Run). r.0.id) (runs b.time b.callbacks) (runs_of bs)))
+      filter_map-append (λ n. slice_get ids n) (map callback_number b.callbacks) (batch_numbers bs) ∙ ((λ i. one i ++ rest i) ∙ sym (map-append (λ (r : Run). r.0.id) (runs b.time b.callbacks) (runs_of bs)))
 
 -- ---- what a frame ran
 
@@ -190,7 +190,7 @@ module _ (interval phases : ℕ) (fs : List FrameEntry) (allowed : all_allowed i
   behind : drop (begin_place (reverse fs) + 1) fs ≡ reverse it.newer
   behind = (λ i. drop (within i) (fs_are i)) ∙ drop-append_seam (reverse it.older ++ it.begin ∷ []) (reverse it.newer)
 
-  ran_ids : numbers_of (batches_since (reverse fs)) ≡ ran_since (reverse fs) → frame_ids fs (Some (begin_place (reverse fs))) ≡ ids_of (runs_of (batches_since (reverse fs)))
+  ran_ids : batch_numbers (batches_since (reverse fs)) ≡ ran_since (reverse fs) → frame_ids fs (Some (begin_place (reverse fs))) ≡ ids_of (runs_of (batches_since (reverse fs)))
   ran_ids same =
       let ids : List ℕ = filter_map posted_id fs in
       let ids_are : ids ≡ ids_in (reverse fs) ++ [] = ap (filter_map posted_id) (sym (reverse-reverse fs)) ∙ sym (append-nil (ids_in (reverse fs))) in
@@ -210,8 +210,8 @@ module _ (interval phases : ℕ) (fs : List FrameEntry) (allowed : all_allowed i
       ap (λ l. filter_map moment_in (before_first is_begin l)) behind ∙ (ap (filter_map moment_in) (before_none is_begin (reverse it.newer) none) ∙ it.moments)
 
 -- however the record grows, the frame that has just ended is one that began there, and runs what its client told
-pub frame_ran : (interval phases first : ℕ) (fs gs : List FrameEntry) → lawful interval phases (fs ++ gs) ≡ true → next_phase phases (reverse fs) ≡ None → owed (reverse fs) ≡ [] → 0 < length (batches_since (reverse fs))
-    → numbers_of (batches_since (reverse fs)) ≡ ran_since (reverse fs) → first ≤ begin_place (reverse fs)
+pub frame_ran : (interval phases first : ℕ) (fs gs : List FrameEntry) → lawful interval phases (fs ++ gs) ≡ true → next_phase phases (reverse fs) ≡ None → owed_callbacks (reverse fs) ≡ [] → 0 < length (batches_since (reverse fs))
+    → batch_numbers (batches_since (reverse fs)) ≡ ran_since (reverse fs) → first ≤ begin_place (reverse fs)
     → (is_frame_from (fs ++ gs) first (Some (begin_place (reverse fs))) ≡ true) × (frame_ids (fs ++ gs) (Some (begin_place (reverse fs))) ≡ ids_of (runs_of (batches_since (reverse fs))))
 unfolding lawful
 frame_ran interval phases first fs gs whole none settled some same near =
@@ -222,7 +222,7 @@ frame_ran interval phases first fs gs whole none settled some same near =
     )
 
 -- its moments are its start and those at which it took its phases
-frame_then : (interval phases vsync start time : ℕ) (fs gs : List FrameEntry) → lawful interval phases (fs ++ gs) ≡ true → next_phase phases (reverse fs) ≡ None → owed (reverse fs) ≡ [] → 0 < length (batches_since (reverse fs))
+frame_then : (interval phases vsync start time : ℕ) (fs gs : List FrameEntry) → lawful interval phases (fs ++ gs) ≡ true → next_phase phases (reverse fs) ≡ None → owed_callbacks (reverse fs) ≡ [] → 0 < length (batches_since (reverse fs))
     → slice_get (fs ++ gs) (begin_place (reverse fs)) ≡ Some (Begin vsync start time) → frame_moments (fs ++ gs) (begin_place (reverse fs)) ≡ start ∷ map now_of (batches_since (reverse fs))
 unfolding lawful
 frame_then interval phases vsync start time fs gs whole none settled some at =
@@ -250,7 +250,7 @@ added_at xs ys zs more e place is long whole =
     (λ i. slice_get (zs_are i) (at i)) ∙ at_seam xs e more
 
 -- a turn's pass has seen what it had seen, and more
-pub turn_grew : (f g : Pass) (x y : Kept) → IsTurn f g x y → IsPrefix f.view.seen g.view.seen
+pub turn_grew : (f g : Pass) (x y : Kept) → IsFrameTurn f g x y → IsPrefix f.view.seen g.view.seen
 turn_grew f g x y t = prefix_trans f.view.seen x.frames.entries g.view.seen t.begins.0 (subst (IsPrefix x.frames.entries) (sym t.seen) t.grows)
 
 pub no_frame : (interval phases : ℕ) (is_moment : ℕ → Bool) (before after : Pass) (told : List Run) → told ≡ [] → IsPrefix before.view.seen after.view.seen → after.view.own ≡ before.view.own → RunsInTime is_moment before after None
@@ -262,13 +262,13 @@ no_frame interval phases is_moment before after told none grew own in_time = rec
   started = refl;
   within = omega arith;
   grew = grew;
-  asks = ap asks_in own ∙ sym (append-nil (asks_of before));
+  asks = ap asks_in own ∙ sym (append-nil (pass_asks before));
   stamped = λ stamp waits has fs begins. refl;
   in_time = in_time;
 }
 
 -- a frame that was run was asked for by its start
-frame_asks : (is_moment : ℕ → Bool) (before after : Pass) (adds : AddsFrame is_moment before after) → asks_of after ≡ asks_of before ++ Runs adds.1 ∷ []
+frame_asks : (is_moment : ℕ → Bool) (before after : Pass) (adds : AddsFrame is_moment before after) → pass_asks after ≡ pass_asks before ++ Runs adds.1 ∷ []
 frame_asks is_moment before after adds = frame_tells asked_in (λ p n t. refl) (λ n. refl) is_moment before after adds
 
 -- a frame that was to begin is to begin still, where the pass knows what it knew
@@ -298,7 +298,7 @@ framed_ran interval phases is_moment before after told Done some (start, time, m
       framed = λ fs begins is. (
           let whole : y.frames.entries ++ begins.0 ≡ fs = ap (λ l. l ++ begins.0) seen_is ∙ begins.1 in
           let law = subst (λ (l : List FrameEntry). lawful interval phases l ≡ true) (sym whole) is in
-          let ran = frame_ran interval phases first y.frames.entries begins.0 law none settled few (ap numbers_of (sym batches_are) ∙ numbers) near in
+          let ran = frame_ran interval phases first y.frames.entries begins.0 law none settled few (ap batch_numbers (sym batches_are) ∙ numbers) near in
           let stood = added_at x.frames.entries middle.view.seen (y.frames.entries ++ begins.0) (grew.0 ++ begins.0) (Begin x.stamp start time) place began at
           (sym (append_assoc middle.view.seen grew.0 begins.0) ∙ ap (λ l. l ++ begins.0) (grew.1 ∙ sym seen_is)) in
           let moments = frame_then interval phases x.stamp start time y.frames.entries begins.0 law none settled few stood in
@@ -333,7 +333,7 @@ framed_ran interval phases is_moment before after told (Backwards last) some (st
     (λ t stamp waits only has up_to. (frame_up_to t is_moment only phases before after (Some []) (Some told) (Backwards last) (start, moment, turn, told_is, later) has.key has.constants has.alone up_to, λ waiting over. absurd (never_back t is_moment only phases last before after (Some []) (Some told) (start, moment, turn, told_is, later) has.key has.constants has.alone up_to)))
 framed_ran interval phases is_moment before after told NoMemory some t records ends = tt
 
--- what holds where memory was not wanting
+-- what holds where memory didn't run out
 pub not_wanting : (r : Framed) (P : Type 0) → HasEndedWait r → UnlessNoMemory r P → P
 not_wanting Done P ended h = h
 not_wanting (Elsewhere next) P ended h = h

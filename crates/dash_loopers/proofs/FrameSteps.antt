@@ -6,35 +6,35 @@ use Rattle.std.proofs.lemmas.List.Sums.{fold-append}
 use Rattle.frame_phases.specs.declared.entry.Callback.{Callback}
 use Rattle.looper_run.specs.Holding.{Sender}
 use Rattle.choreographer.specs.declared.frame.Framed.{Framed}
-use Rattle.choreographer.specs.Known.{Known as Pass}
+use Rattle.choreographer.specs.Known.{Pass}
 use Rattle.choreographer.specs.Client.{Run}
 use Rattle.choreographer.specs.Done.{FramedBy, RecordsBy, EndsWait, UnlessNoMemory}
 use Rattle.dash_script.specs.declared.script.Script.{Script}
-use Rattle.run_model.specs.Loopers.{Looper, callback_ran}
+use Rattle.run_model.specs.Loopers.{LooperState, callback_ran}
 use Rattle.dash_loopers.specs.declared.view_root.ViewRoot.{ViewRoot}
-use Rattle.dash_loopers.specs.Played.{RanFrame, calls_of, ids_of, IsShown, Shows, EndsLatest}
+use Rattle.dash_loopers.specs.Played.{RanFrame, calls_of, ids_of, IsShown, StepsRoot, EndsLatest}
 use Rattle.dash_loopers.proofs.FrameIds.{framed_ran, not_wanting}
 use Rattle.dash_loopers.specs.Places.{HasEndedWait}
 
 -- no callback ran yet
 pub none_ran : (s : Script) (q now : ℕ) (p p' : Sender) (root root' : ViewRoot) (ran : List Run) → p ≡ p' → root ≡ root' → ran ≡ []
-    → Shows s q (λ a. fold (callback_ran s q now) a (ids_of ran)) (calls_of p) root (calls_of p') root'
+    → StepsRoot s q (λ a. fold (callback_ran s q now) a (ids_of ran)) (calls_of p) root (calls_of p') root'
 none_ran s q now p p' root root' ran is_p is_root none text a is =
     subst (λ (l : List Run). IsShown s q (calls_of p') root' (fold (callback_ran s q now) a (ids_of l))) (sym none)
     (subst (λ (z : Sender). IsShown s q (calls_of z) root' a) is_p (subst (λ (z : ViewRoot). IsShown s q (calls_of p) z a) is_root is))
 
 -- one callback more ran
 pub ran_more : (s : Script) (q now now' : ℕ) (began : Sender) (root0 : ViewRoot) (p p' : Sender) (root root' : ViewRoot) (ran ran' : List Run) (c : Callback) (time : ℕ) → now' ≡ now → ran' ≡ ran ++ (c, time) ∷ []
-    → Shows s q (λ a. fold (callback_ran s q now) a (ids_of ran)) (calls_of began) root0 (calls_of p) root → Shows s q (λ a. callback_ran s q now a c.id) (calls_of p) root (calls_of p') root'
-    → Shows s q (λ a. fold (callback_ran s q now') a (ids_of ran')) (calls_of began) root0 (calls_of p') root'
+    → StepsRoot s q (λ a. fold (callback_ran s q now) a (ids_of ran)) (calls_of began) root0 (calls_of p) root → StepsRoot s q (λ a. callback_ran s q now a c.id) (calls_of p) root (calls_of p') root'
+    → StepsRoot s q (λ a. fold (callback_ran s q now') a (ids_of ran')) (calls_of began) root0 (calls_of p') root'
 ran_more s q now now' began root0 p p' root root' ran ran' c time same grew before here text a is =
     let ids : ids_of ran' ≡ ids_of ran ++ c.id ∷ [] = ap ids_of grew ∙ map-append (λ (r : Run). r.0.id) ran ((c, time) ∷ []) in
     let steps : fold (callback_ran s q now') a (ids_of ran') ≡ callback_ran s q now (fold (callback_ran s q now) a (ids_of ran)) c.id = (λ i. fold (callback_ran s q (same i)) a (ids i)) ∙ fold-append (callback_ran s q now) a (ids_of ran) (c.id ∷ []) in
-    subst (λ (b : Looper). IsShown s q (calls_of p') root' b) (sym steps) (here text (fold (callback_ran s q now) a (ids_of ran)) (before text a is))
+    subst (λ (b : LooperState). IsShown s q (calls_of p') root' b) (sym steps) (here text (fold (callback_ran s q now) a (ids_of ran)) (before text a is))
 
 -- what the callbacks of a frame show, from this root and this poster to those
 abbrev pub FrameShows : ℕ → List ℕ → Sender → ViewRoot → Sender → ViewRoot → Type 0
-FrameShows now ids p root p' root' = (s : Script) (q : ℕ) → Shows s q (λ a. fold (callback_ran s q now) a ids) (calls_of p) root (calls_of p') root'
+FrameShows now ids p root p' root' = (s : Script) (q : ℕ) → StepsRoot s q (λ a. fold (callback_ran s q now) a ids) (calls_of p) root (calls_of p') root'
 
 -- a frame's callbacks ran, and show what they do
 pub frame_shown : {E : Type 0} (r : Result Unit E) (how : Framed) (interval phases now now' : ℕ) (is_moment : ℕ → Bool) (before after : Pass) (first told : List Run) (p began p' : Sender) (root began_root root' given : ViewRoot)

@@ -5,9 +5,9 @@ use Rattle.frame_phases.specs.State.{scheduled_at}
 use Rattle.frame_phases.specs.Pulses.{comes_after_if_any}
 use Rattle.choreographer.specs.declared.kept.Kept.{Kept}
 use Rattle.choreographer.specs.Steps.{known_by}
-use Rattle.choreographer.specs.Known.{Known as Pass, IsTurn, SeesQuietly}
+use Rattle.choreographer.specs.Known.{Pass, IsFrameTurn, SeesQuietly}
 use Rattle.choreographer.proofs.InTime.{later_quietly}
-use Rattle.choreographer.specs.Calls.{latest, GetsStamp, ComesAfter, DueBy, AwaitsBy, KnowsPulse, stamp_in}
+use Rattle.choreographer.specs.Calls.{latest_stamp, GetsStamp, ComesAfter, DueBy, AwaitsBy, KnowsPulse, stamp_in}
 use Rattle.choreographer.specs.Done.{IsSamePass, BeginsByStamp, EndsWait, EndsWaitAt}
 use Rattle.dash_hall.specs.Kits.{FrameBadge, frame_badge_of}
 use Rattle.dash_hall.proofs.Badges.{frame_turn_badge}
@@ -40,7 +40,7 @@ latest_by before after stamp awaits has stamp' awaits' badge is waits = record {
 -- the same pass, with the pulse that came, or its own
 pub gets_latest : (before after : Pass) (came : Option ℕ) → frame_badge_of after ≡ frame_badge_of before → GetsStamp before after came → AwaitsBy before after came → GetsLatest before after came
 gets_latest before after came badge gets awaits stamp waits has =
-    latest_by before after stamp waits has (latest came stamp) (is_some came || waits) badge (gets has.key has.constants has.alone ∙ ap (latest came) has.has) (by_came came (awaits has.key has.constants has.alone))
+    latest_by before after stamp waits has (latest_stamp came stamp) (is_some came || waits) badge (gets has.key has.constants has.alone ∙ ap (latest_stamp came) has.has) (by_came came (awaits has.key has.constants has.alone))
   where
     by_came : (o : Option ℕ) → KnowsPulse before after o → after.view.awaits ≡ cond (is_some o || waits) 1 0
     by_came None knows = knows ∙ has.waits
@@ -58,7 +58,7 @@ comes_later before after came comes awaits stamp waits has = (
     by_came (Some n) knows = one_or_none waits before.view.awaits has.waits knows.0
 
 -- a turn that leaves the stamp that it found, and whether a frame is to begin
-pub turn_keeps_latest : (before after : Pass) (x y : Kept) → IsTurn before after x y → y.stamp ≡ x.stamp → awaits_frame y ≡ awaits_frame x → KeepsLatest before after
+pub turn_keeps_latest : (before after : Pass) (x y : Kept) → IsFrameTurn before after x y → y.stamp ≡ x.stamp → awaits_frame y ≡ awaits_frame x → KeepsLatest before after
 turn_keeps_latest before after x y turn same still stamp waits has =
     let s = turn.stamp has.key has.constants has.alone in
     let w = turn.awaits has.key has.constants has.alone in
@@ -98,7 +98,7 @@ still_in_time is_moment before after keeps quiet t stamp waits only has up_to = 
 -- ---- what is awaited by the looper
 
 -- a turn that leaves whether a frame is to begin
-pub turn_may_await : (before after : Parts) (x y : Kept) → IsTurn before.frames after.frames x y → awaits_frame y ≡ awaits_frame x → after.awaits ≡ before.awaits → MayAwait before → MayAwait after
+pub turn_may_await : (before after : Parts) (x y : Kept) → IsFrameTurn before.frames after.frames x y → awaits_frame y ≡ awaits_frame x → after.awaits ≡ before.awaits → MayAwait before → MayAwait after
 turn_may_await before after x y turn still same may waits c e named =
     let constants = sym turn.constants ∙ e in
     let alone = named ∙ ap Some turn.number in

@@ -4,7 +4,7 @@ use Rattle.std.specs.Prelude.{◌==◌, ◌||◌, is_some, Result, Ok, Err, is_o
 use Rattle.std.specs.Option.{option_map_or}
 use Rattle.loop_model.specs.declared.post.Post.{Post as PostData}
 use Rattle.loop_model.specs.declared.item.Item.{Item}
-use Rattle.loop_model.specs.declared.item.Item.TheVariants.{Post as Message, Barrier as Fence}
+use Rattle.loop_model.specs.declared.item.Item.TheVariants.{Post as Message, Barrier as SyncBarrier}
 use Rattle.message_slot.specs.Fields.{handler_of, obj_of}
 use Rattle.shared_queue.specs.Known.{IsSamePoster}
 use Rattle.loop_model.specs.declared.entry.Entry.{Entry}
@@ -16,19 +16,19 @@ use Rattle.message_slot.specs.Letter.{number_in, post_of}
 use Rattle.message_pool.specs.Passes.{Node}
 use Rattle.dash_script.specs.declared.script.Script.{Script}
 use Rattle.looper_run.specs.Holding.{Sender, Holding}
-use Rattle.looper_run.specs.Tests.{Passes, PassesWith, IsLent, IsTake, HasTaken, Unless}
+use Rattle.looper_run.specs.Tests.{Passes, PassesWith, IsLent, IsTake, HasTakenMessage, Unless}
 use Rattle.looper_run.specs.declared.dispatcher.Did.{Did}
 use Rattle.looper_run.specs.declared.dispatcher.Did.TheVariants.{Yes, No, NoMemory}
 use Rattle.run_model.specs.Planned.{frame_handler}
-use Rattle.run_model.specs.Loopers.{Looper}
+use Rattle.run_model.specs.Loopers.{LooperState}
 use Rattle.dash_loopers.specs.declared.player.Parts.{Parts}
 use Rattle.dash_loopers.specs.declared.looper.StageLooper.{StageLooper}
-use Rattle.dash_loopers.specs.Played.{calls_in, calls_of, Delivers, pulsed, Pulses, AreAlike, IsPlayingBy}
+use Rattle.dash_loopers.specs.Played.{calls_in, calls_of, Delivers, looper_pulsed, Pulses, AreAlike, IsPlayingBy}
 use Rattle.dash_loopers.proofs.OpenTimes.{delivered_alike, taken_alike, pulsed_alike}
 use Rattle.dash_loopers.proofs.LooperStands.{taken, stands_pulse, by_dispatch, by_reading, stands_dispatch}
 use Rattle.dash_loopers.proofs.LooperPlaying.{did_well}
 
-cleared : (a b : Looper) → AreAlike a b → AreAlike (record a { painted = [] }) (record b { painted = [] })
+cleared : (a b : LooperState) → AreAlike a b → AreAlike (record a { painted = [] }) (record b { painted = [] })
 cleared a b h = record {
   gauges = h.gauges;
   barrier = h.barrier;
@@ -54,8 +54,8 @@ module _ (s : Script) (q : ℕ) (began : StageLooper) where
       subst (λ (n : ℕ). IsPlayingBy s q began n es' acts' parts') (sym same) (subst (λ (l : List Entry). IsPlayingBy s q began k l acts' parts') (sym saw) (λ text did a come.
       (let c = meets text did a come in
       record {
-        did = pulsed q here.stamp c.did;
-        state = pulsed q here.stamp c.state;
+        did = looper_pulsed q here.stamp c.did;
+        state = looper_pulsed q here.stamp c.state;
         alike = pulsed_alike q here.stamp c.did c.state c.alike;
         stands = stands_pulse s q k now es more acts acts' parts parts' c.did c.state text here c.stands;
       })))
@@ -86,22 +86,22 @@ module _ (s : Script) (q : ℕ) (began : StageLooper) where
       })))
 
   pub by_delivery : (time u : ℕ) (is_moment : ℕ → Bool) (node : Node) (route : Route) (before after : Holding) (parts parts' : Parts) → IsLent before after
-      → HasTaken (λ k es acts. IsPlayingBy s q began k es acts parts) before node time → IsAtOnce q (post_of node.item) u time
+      → HasTakenMessage (λ k es acts. IsPlayingBy s q began k es acts parts) before node time → IsAtOnce q (post_of node.item) u time
       → Delivers s q u is_moment (post_of node.item) (calls_of before.poster) (calls_of after.poster) parts parts' before.journal.acts after.journal.acts
       → PassesWith (λ k es acts. IsPlayingBy s q began k es acts parts') after node time route
   by_delivery time u is_moment node route before after parts parts' lent t once d =
       dispatched_by before.poster.sender after.poster.sender (number_in node.item) time u is_moment (post_of node.item) t.past before.poster.view.seen after.poster.view.seen lent.more t.take before.journal.acts after.journal.acts route parts parts' lent.same.sender t.seen lent.seen t.is_take t.post once d t.passes
 
-  -- a pulse was delivered, or none came, unless memory was wanting
+  -- a pulse was delivered, or none came, unless memory ran out
   pub pulse_or_none_by : (now : ℕ) (d : Did) (before after : Holding) (parts parts' : Parts) → IsLent before after → Unless d (Pulses s q now (calls_of before.poster) (calls_of after.poster) parts parts' before.journal.acts after.journal.acts)
       → Passes (λ k es acts. IsPlayingBy s q began k es acts parts) before → Unless d (Passes (λ k es acts. IsPlayingBy s q began k es acts parts') after)
   pulse_or_none_by now Yes before after parts parts' lent p meets = by_pulse now before after parts parts' lent p meets
   pulse_or_none_by now No before after parts parts' lent p meets = by_pulse now before after parts parts' lent p meets
   pulse_or_none_by now NoMemory before after parts parts' lent p meets = tt
 
-  -- a message was dispatched, unless memory was wanting
+  -- a message was dispatched, unless memory ran out
   pub dispatches_well_by : {A E : Type 0} (time u : ℕ) (is_moment : ℕ → Bool) (node : Node) (route : Route) (m : PostData) (r : Result A E) (d : Did) (before after : Holding) (parts parts' : Parts) → m ≡ post_of node.item → IsAtOnce q m u time → IsLent before after
-      → HasTaken (λ k es acts. IsPlayingBy s q began k es acts parts) before node time
+      → HasTakenMessage (λ k es acts. IsPlayingBy s q began k es acts parts) before node time
       → OnOk r (Delivers s q u is_moment m (calls_of before.poster) (calls_of after.poster) parts parts' before.journal.acts after.journal.acts)
       → (d ≡ No → ⊥) → (d ≡ Yes → is_ok r ≡ true)
       → Unless d (PassesWith (λ k es acts. IsPlayingBy s q began k es acts parts') after node time route)
@@ -120,7 +120,7 @@ intercepted_once q u now (Message n p) m is taken none not_frame = absurd (
     let handler : (p.handler == frame_handler q) ≡ false = ap (λ (x : PostData). x.handler == frame_handler q) (sym is) ∙ not_frame in
     let wrong : false ≡ true = sym (λ i. handler i || object i) ∙ taken in
     cc)
-intercepted_once q u now (Fence t w) m is taken none not_frame = absurd cc
+intercepted_once q u now (SyncBarrier t w) m is taken none not_frame = absurd cc
 
 -- ---- a bell that was rung behind a delivery
 

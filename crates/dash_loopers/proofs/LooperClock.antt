@@ -14,8 +14,8 @@ use Rattle.looper_run.specs.Holding.{Sender}
 use Rattle.choreographer.specs.declared.host.HostSent.{HostSent}
 use Rattle.choreographer.specs.declared.host.HostSent.TheVariants as host
 use Rattle.choreographer.specs.declared.hosted.Pulse.{Pulse}
-use Rattle.choreographer.specs.Host.{sent_by}
-use Rattle.choreographer.specs.Known.{Known as Pass}
+use Rattle.choreographer.specs.Host.{added_sends}
+use Rattle.choreographer.specs.Known.{Pass}
 use Rattle.choreographer.specs.Calls.{PulsedBy}
 use Rattle.run_model.specs.Moments.{Mode, has_moment}
 use Rattle.run_model.specs.Planned.{frame_handler}
@@ -86,7 +86,7 @@ pub made_untimed : {A E : Type 0} (p q : Sender) (a b : Tally) (c : Call) (r : R
 made_untimed p q a b c (Ok x) g none made same = λ m. adds_call m p q a b c [] g none made
 made_untimed p q a b c (Err e) g none made same = λ m. adds_nothing m p q a b g same
 
-frame_untimed : (h w : ℕ) (answer : HostSent) (p q : Sender) (a b : Tally) → GoesOn p q a b → sends_by h q ≡ sends_by h p ++ sent_by 0 0 w answer → AddsUntimed p q
+frame_untimed : (h w : ℕ) (answer : HostSent) (p q : Sender) (a b : Tally) → GoesOn p q a b → sends_by h q ≡ sends_by h p ++ added_sends 0 0 w answer → AddsUntimed p q
 frame_untimed h w host.Accepted p q a b goes sends = λ m.
     adds_call m p q a b (Post (record { handler = h; what = 0; arg = 0; obj = None; callback = None; when = w; asynchronous = true; slot = None })) [] goes refl (told_one h 0 0 w host.Accepted p q a b goes accepted sends)
 frame_untimed h w host.Refused p q a b goes sends = λ m.

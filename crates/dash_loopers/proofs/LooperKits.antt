@@ -12,14 +12,14 @@ use Rattle.loop_model.specs.Answers.{is_over}
 use Rattle.run_model.specs.Planned.{sender_count, entries_by}
 use Rattle.shared_queue.specs.Constants.{Constants}
 use Rattle.shared_queue.specs.Known.{Shared}
-use Rattle.choreographer.specs.Known.{Shared as Frames}
+use Rattle.choreographer.specs.Known.{SharedFrames}
 use Rattle.looper_run.specs.declared.looper.Round.{Round}
 use Rattle.looper_run.specs.Holding.{Sender, Looping, Workplace, workplace}
 use Rattle.looper_run.specs.Tests.{IsSameLooper}
 use Rattle.looper_run.specs.Asked.{any_heard}
 use Rattle.looper_run.specs.Looks.{IsRound}
 use Rattle.looper_run.specs.Round.{RoundBy, is_ended}
-use Rattle.looper_run.specs.Acts.{taken_by}
+use Rattle.looper_run.specs.Acts.{taken_messages}
 use Rattle.loop_model.specs.Dispatches.{dispatches, call_dispatch}
 use Rattle.loop_model.specs.declared.entry.Entry.{Entry}
 use Rattle.loop_model.specs.declared.journal.Journal.{Journal}
@@ -52,15 +52,15 @@ module _ (s : Script) (hall : Hall) (n : ℕ) (l : IsLooperOf s hall n) where
       found (inl a) = (a.0, a.2)
       found (inr b) = (let few = b.0 in let one = l.one in absurd (omega (arith, few, one, queue_count s hall n l)))
 
-  pub its_frames : (c : Frames) × (slice_get hall.choreographers.items n ≡ Some c)
+  pub its_frames : (c : SharedFrames) × (slice_get hall.choreographers.items n ≡ Some c)
   its_frames = found (slice_get_cases hall.choreographers.items n).1
     where
-      found : ((x : Frames) × (n < length hall.choreographers.items) × (slice_get hall.choreographers.items n ≡ Some x) × (get_or hall.choreographers.items n x ≡ x)) ⊎ ((length hall.choreographers.items ≤ n) × (slice_get hall.choreographers.items n ≡ None)) → (c : Frames) × (slice_get hall.choreographers.items n ≡ Some c)
+      found : ((x : SharedFrames) × (n < length hall.choreographers.items) × (slice_get hall.choreographers.items n ≡ Some x) × (get_or hall.choreographers.items n x ≡ x)) ⊎ ((length hall.choreographers.items ≤ n) × (slice_get hall.choreographers.items n ≡ None)) → (c : SharedFrames) × (slice_get hall.choreographers.items n ≡ Some c)
       found (inl a) = (a.0, a.2)
       found (inr b) = (let few = b.0 in let one = l.one in absurd (omega (arith, few, one, frames_count s hall n l)))
 
   -- the passes of its kit
-  pub two_frames : (c : Frames) → slice_get hall.choreographers.items n ≡ Some c → frames_for s hall.choreographers.items (s.threads + n) ≡ frame_badge_for s.threads c ∷ frame_badge_for (s.threads + 1) c ∷ []
+  pub two_frames : (c : SharedFrames) → slice_get hall.choreographers.items n ≡ Some c → frames_for s hall.choreographers.items (s.threads + n) ≡ frame_badge_for s.threads c ∷ frame_badge_for (s.threads + 1) c ∷ []
   two_frames c at =
       let one = l.one in
       let no_thread : ltb (s.threads + n) s.threads ≡ false = le-ltb (s.threads + n) s.threads (omega arith) in
@@ -147,8 +147,8 @@ looper_then s hall now l q parts' after last is_hall is at are same ended round 
       ended = ended;
       told = λ on.
           let mine = is.own in
-          let before = subst (λ (n : ℕ). dispatches l.looper.held.journal.acts ≡ taken_by n l.looper.held.poster.view.seen) (sym mine) (is.told going) in
-          subst (λ (n : ℕ). dispatches after.held.journal.acts ≡ taken_by n after.held.poster.view.seen) mine (told_by_round q.constants.setting now l.looper.held after.held last round on before);
+          let before = subst (λ (n : ℕ). dispatches l.looper.held.journal.acts ≡ taken_messages n l.looper.held.poster.view.seen) (sym mine) (is.told going) in
+          subst (λ (n : ℕ). dispatches after.held.journal.acts ≡ taken_messages n after.held.poster.view.seen) mine (told_by_round q.constants.setting now l.looper.held after.held last round on before);
       over = λ over. subst (λ (c : Constants TableId). is_over (empty_base c.setting.senders) after.held.poster.view.seen ≡ true) (queue_is s hall l.number of l.number q at)
           (over_by_round q.constants.setting now l.looper.held after.held last q.constants (same.constants ∙ (is.place.queue q at).1) round over);
       disposes = disposes_by_round l.sender now l.looper after l.last last unended going is.own looks is.disposes;
@@ -187,7 +187,7 @@ looper_begins s hall n kit parts looping poster last l k unused is others frames
     let q = its_queue s hall n l in
     let none : entries_by (s.threads + n) poster.view.seen ≡ [] =
     ap (entries_by (s.threads + n)) (subst (λ (p : Sender). p.view.seen ≡ []) (sym is) (unused.posters n poster (kit_many s hall n l kit k))) in
-    let taken_none : taken_by (s.threads + n) poster.view.seen ≡ [] = taken_own (s.threads + n) poster.view.seen ∙ ap (filter_map (λ (e : Entry). call_dispatch e.call e.reply)) none in
+    let taken_none : taken_messages (s.threads + n) poster.view.seen ≡ [] = taken_own (s.threads + n) poster.view.seen ∙ ap (filter_map (λ (e : Entry). call_dispatch e.call e.reply)) none in
     record {
       few = l.few;
       number = l.one;
@@ -208,7 +208,7 @@ looper_begins s hall n kit parts looping poster last l k unused is others frames
       own = ap (λ h. h.poster.sender) held ∙ ap (λ (b : Badge). b.sender) (mine q.0 q.1);
       journal = ap (λ h. h.journal.looper) held;
       ended = ended;
-      told = λ on. ap (λ h. dispatches h.journal.acts) held ∙ sym (ap (λ h. taken_by (s.threads + n) h.poster.view.seen) held ∙ taken_none);
+      told = λ on. ap (λ h. dispatches h.journal.acts) held ∙ sym (ap (λ h. taken_messages (s.threads + n) h.poster.view.seen) held ∙ taken_none);
       over = λ over. absurd (let wrong : false ≡ true = sym going ∙ over in cc);
       disposes = disposes_none last (entries_by (s.threads + n) looping.held.poster.view.seen) going (ap (λ h. entries_by (s.threads + n) h.poster.view.seen) held ∙ none);
     }
@@ -260,9 +260,9 @@ disposes_again s hall l parts posters is_hall is e back on d =
 -- and what it has taken is told by the looper's journal
 pub told_again : (s : Script) (hall : Hall) (l : StageLooper) (parts : Parts) (posters : List Sender) (j : Journal) → IsHall s hall → IsLooper s hall l → l.parts ≡ Some parts
     → posters ≡ insert parts.others.items l.number l.looper.held.poster → j ≡ l.looper.held.journal → is_given_up l.last ≡ false
-    → (d : Sender) → dispatches j.acts ≡ taken_by (s.threads + l.number) (get_or posters l.number d).view.seen
+    → (d : Sender) → dispatches j.acts ≡ taken_messages (s.threads + l.number) (get_or posters l.number d).view.seen
 told_again s hall l parts posters j is_hall is e back same on d =
     ap (λ (k : Journal). dispatches k.acts) same
     ∙ (is.told on
-    ∙ (ap (λ (n : ℕ). taken_by n l.looper.held.poster.view.seen) is.sender
-    ∙ ap (λ (p : Sender). taken_by (s.threads + l.number) p.view.seen) (sym (own_again s hall l parts posters is_hall is e back d))))
+    ∙ (ap (λ (n : ℕ). taken_messages n l.looper.held.poster.view.seen) is.sender
+    ∙ ap (λ (p : Sender). taken_messages (s.threads + l.number) p.view.seen) (sym (own_again s hall l parts posters is_hall is e back d))))

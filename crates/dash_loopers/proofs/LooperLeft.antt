@@ -11,51 +11,51 @@ use Rattle.loop_model.specs.declared.journal.Journal.{Journal}
 use Rattle.frame_phases.specs.declared.entry.FrameEntry.{FrameEntry}
 use Rattle.dash_script.specs.declared.script.Script.{Script}
 use Rattle.looper_run.specs.Holding.{Sender}
-use Rattle.choreographer.specs.Known.{Known as Pass}
+use Rattle.choreographer.specs.Known.{Pass}
 use Rattle.run_model.specs.Planned.{AreFor, token_in}
-use Rattle.run_model.specs.Loopers.{Looper, Sent, first_looper, Lead, IsSent}
+use Rattle.run_model.specs.Loopers.{LooperState, SentCall, first_looper, ActsLead, IsSent}
 use Rattle.run_model.specs.Parts.{sent_on, is_whole, asks_to_run}
 use Rattle.run_model.specs.FrameRecords.{FrameAt, are_whole, FrameAsk, Runs, as_told}
 use Rattle.dash_hall.specs.declared.hall.Hall.{Hall}
 use Rattle.dash_hall.specs.declared.kit.Kit.{Kit}
 use Rattle.dash_hall.specs.Kits.{IsHall}
 use Rattle.dash_hall.specs.Growth.{own}
-use Rattle.dash_hall.specs.Hosts.{asks_of}
+use Rattle.dash_hall.specs.Hosts.{pass_asks}
 use Rattle.dash_loopers.specs.declared.player.Parts.{Parts}
 use Rattle.dash_loopers.specs.declared.looper.StageLooper.{StageLooper}
 use Rattle.dash_loopers.specs.Loopers.{IsLooper}
-use Rattle.dash_loopers.specs.Played.{calls_in, calls_of, untimed, unstarted, AreAlike, StandsBy, HasComeBy, HasLeftBy}
+use Rattle.dash_loopers.specs.Played.{calls_in, calls_of, untimed, unstarted, AreAlike, StandsBy, StandsBetweenLoops, HasLeftBy}
 use Rattle.dash_loopers.proofs.LooperSeats.{its_place, at_other, within_others}
 use Rattle.dash_loopers.proofs.LooperKits.{looper_of, parts_of, others_many, own_again}
 
 -- ---- what free mode tells of two states that are alike
 
 -- a call's timing has no part in which entry makes it
-untimed_for : (tokens : List ℕ) (xs : List Sent) (es : List Entry) → AreFor IsSent tokens xs es → AreFor IsSent tokens (map untimed xs) es
+untimed_for : (tokens : List ℕ) (xs : List SentCall) (es : List Entry) → AreFor IsSent tokens xs es → AreFor IsSent tokens (map untimed xs) es
 untimed_for tokens [] [] h = tt
 untimed_for tokens [] (e ∷ es) h = absurd h
 untimed_for tokens (x ∷ xs) [] h = absurd h
 untimed_for tokens (x ∷ xs) (e ∷ es) h = (record { call = h.0.call; reply = h.0.reply }, untimed_for (tokens ++ token_in e.reply) xs es h.1)
 
-timed_for : (tokens : List ℕ) (xs : List Sent) (es : List Entry) → AreFor IsSent tokens (map untimed xs) es → AreFor IsSent tokens xs es
+timed_for : (tokens : List ℕ) (xs : List SentCall) (es : List Entry) → AreFor IsSent tokens (map untimed xs) es → AreFor IsSent tokens xs es
 timed_for tokens [] [] h = tt
 timed_for tokens [] (e ∷ es) h = absurd h
 timed_for tokens (x ∷ xs) [] h = absurd h
 timed_for tokens (x ∷ xs) (e ∷ es) h = (record { call = h.0.call; reply = h.0.reply }, timed_for (tokens ++ token_in e.reply) xs es h.1)
 
-untimed_on : (k : ℕ) (xs : List Sent) → sent_on k (map untimed xs) ≡ map untimed (sent_on k xs)
+untimed_on : (k : ℕ) (xs : List SentCall) → sent_on k (map untimed xs) ≡ map untimed (sent_on k xs)
 untimed_on k [] = refl
 untimed_on k (x ∷ xs) = go (x.queue == k) (untimed_on k xs)
   where
     go : (b : Bool) → sent_on k (map untimed xs) ≡ map untimed (sent_on k xs) → cond b (untimed x ∷ sent_on k (map untimed xs)) (sent_on k (map untimed xs)) ≡ map untimed (cond b (x ∷ sent_on k xs) (sent_on k xs))
-    go true rest = ap (λ (l : List Sent). untimed x ∷ l) rest
+    go true rest = ap (λ (l : List SentCall). untimed x ∷ l) rest
     go false rest = rest
 
 -- the same calls
-pub calls_alike : (k : ℕ) (xs ys : List Sent) (es : List Entry) → map untimed xs ≡ map untimed ys → AreFor IsSent [] (sent_on k xs) es → AreFor IsSent [] (sent_on k ys) es
+pub calls_alike : (k : ℕ) (xs ys : List SentCall) (es : List Entry) → map untimed xs ≡ map untimed ys → AreFor IsSent [] (sent_on k xs) es → AreFor IsSent [] (sent_on k ys) es
 calls_alike k xs ys es same h =
     timed_for [] (sent_on k ys) es
-    (subst (λ (l : List Sent). AreFor IsSent [] l es) (sym (untimed_on k xs) ∙ (ap (sent_on k) same ∙ untimed_on k ys)) (untimed_for [] (sent_on k xs) es h))
+    (subst (λ (l : List SentCall). AreFor IsSent [] l es) (sym (untimed_on k xs) ∙ (ap (sent_on k) same ∙ untimed_on k ys)) (untimed_for [] (sent_on k xs) es h))
 
 runs_told : (xs : List FrameAt) → map (as_told false) (asks_to_run xs) ≡ map (as_told false) (asks_to_run (map unstarted xs))
 runs_told [] = refl
@@ -74,11 +74,11 @@ whole_alike phases fs xs ys same h =
 
 pub left_by_clock : (s : Script) (hall : Hall) (l : StageLooper) (parts : Parts) (j : Journal) (kit : Kit) → IsHall s hall → IsLooper s hall l → l.parts ≡ Some parts
     → kit.posters.items ≡ insert parts.others.items l.number l.looper.held.poster → kit.frames.items ≡ parts.frames ∷ parts.root.pass ∷ [] → j ≡ l.looper.held.journal
-    → (did a : Looper) → HasComeBy s l did a → HasLeftBy s l.number j kit a
+    → (did a : LooperState) → StandsBetweenLoops s l did a → HasLeftBy s l.number j kit a
 left_by_clock s hall l parts j kit is_hall is e posters frames journal did a come = record {
   led = λ d p fs begins law.
-      subst (λ (x : Sender). Lead s l.number x.view.seen fs (first_looper s) j.acts a) (sym (mine d))
-      (subst (λ (x : Journal). Lead s l.number l.looper.held.poster.view.seen fs (first_looper s) x.acts a) (sym journal)
+      subst (λ (x : Sender). ActsLead s l.number x.view.seen fs (first_looper s) j.acts a) (sym (mine d))
+      (subst (λ (x : Journal). ActsLead s l.number l.looper.held.poster.view.seen fs (first_looper s) x.acts a) (sym journal)
       (st.led fs (subst (λ (ps : List Pass). IsPrefix (slice_index_or ps 0 p).view.seen fs) frames begins) law));
   whole = λ p fs begins law. whole_alike _ fs did.frames a.frames alike.frames (st.whole fs (subst (λ (ps : List Pass). IsPrefix (slice_index_or ps 0 p).view.seen fs) frames begins) law);
   settled = st.settled;
@@ -91,10 +91,10 @@ left_by_clock s hall l parts j kit is_hall is e posters frames journal did a com
       calls_alike k did.sent a.sent _ alike.sent
       (subst (λ (x : Sender). AreFor IsSent [] (sent_on k did.sent) (own x)) (sym (ap (λ (ps : List Sender). get_or ps k d) posters ∙ at_other parts.others.items l.number many l.looper.held.poster d k w.0 w.1))
       (st.played.elsewhere k w.0 d w.1 (within_others parts.others.items l.number many l.looper.held.poster k w.0 w.1 within)));
-  asked = λ p. ap (λ (ps : List Pass). map (as_told false) (asks_of (slice_index_or ps 1 p))) frames ∙ (ap (map (as_told false)) st.played.shown.asked ∙ alike.posted);
+  asked = λ p. ap (λ (ps : List Pass). map (as_told false) (pass_asks (slice_index_or ps 1 p))) frames ∙ (ap (map (as_told false)) st.played.shown.asked ∙ alike.posted);
   turns = λ p. ap (λ (ps : List Pass). (slice_index_or ps 1 p).view.turns) frames
       ∙ (st.played.shown.turns ∙ (sym (length-map did.posted (as_told false)) ∙ (ap length alike.posted ∙ length-map a.posted (as_told false))));
-  ran = λ p. ap (λ (ps : List Pass). map (as_told false) (asks_of (slice_index_or ps 0 p))) frames ∙ (st.ran ∙ runs_alike did.frames a.frames alike.frames);
+  ran = λ p. ap (λ (ps : List Pass). map (as_told false) (pass_asks (slice_index_or ps 0 p))) frames ∙ (st.ran ∙ runs_alike did.frames a.frames alike.frames);
 }
   where
     alike : AreAlike did a

@@ -11,7 +11,7 @@ use Rattle.looper_run.specs.declared.looper.Round.{Round}
 use Rattle.looper_run.specs.Asked.{Listening, any_heard}
 use Rattle.looper_run.specs.Holding.{Looping, Workplace}
 use Rattle.looper_run.specs.Looks.{IsRound}
-use Rattle.looper_run.specs.Loops.{IsStill, IsLoop, LoopBy, AreLooksBy, UnlessLost, is_over as ends}
+use Rattle.looper_run.specs.Loops.{IsStill, IsLoop, LoopBy, AreLooksBy, UnlessLost, has_ended_looper as ends}
 use Rattle.looper_run.specs.Round.{RoundBy, UnlessWanting, is_ended}
 use Rattle.looper_run.specs.Tests.{IsSameLooper}
 use Rattle.dash_script.specs.declared.script.Script.{Script}
@@ -25,7 +25,7 @@ use Rattle.dash_loopers.specs.Loopers.{ArePartsOf, IsLooper, is_given_up, round_
 use Rattle.dash_loopers.specs.Players.{AreSameParts}
 use Rattle.dash_loopers.specs.Played.{HasPlayedBy}
 use Rattle.dash_loopers.specs.Clocked.{ClockOwner, ServesFree, IsPlayingAt, StaysByClock}
-use Rattle.dash_loopers.specs.Looped.{HasLooped, GoesOnFrom, with_parts, owner_of}
+use Rattle.dash_loopers.specs.Looped.{HasLooped, GoesOnFrom, looper_with_parts, owner_of}
 use Rattle.dash_loopers.proofs.LooperPlaces.{are_parts_then}
 use Rattle.dash_loopers.proofs.LooperKits.{looper_of, looper_then, looper_with}
 use Rattle.dash_loopers.proofs.LooperPlayed.{unless}
@@ -52,26 +52,26 @@ pub looped_here : (m : Mode) (s : Script) (hall : Hall) (l after : StageLooper) 
     → HasLooped o.mode o.owner.script o.owner.hall o.owner.began after → HasLooped m s hall l after
 looped_here m s hall l after o own h = subst (λ (x : ClockOwner). HasLooped x.mode x.owner.script x.owner.hall x.owner.began after) own h
 
--- with other parts, which are the same unless memory was wanting
+-- with other parts, which are the same unless memory ran out
 pub looped_with : (m : Mode) (s : Script) (hall : Hall) (began l : StageLooper) (last : Round) (p q : Parts) → AreSameParts p q → (is_given_up last ≡ false → q ≡ p)
-    → HasLooped m s hall began (with_parts l last p) → HasLooped m s hall began (with_parts l last q)
+    → HasLooped m s hall began (looper_with_parts l last p) → HasLooped m s hall began (looper_with_parts l last q)
 looped_with m s hall began l last p q alike same h = record {
-  looper = looper_with s hall (with_parts l last p) q (are_parts_then s hall l.number p q alike h.looper.parts) h.looper;
+  looper = looper_with s hall (looper_with_parts l last p) q (are_parts_then s hall l.number p q alike h.looper.parts) h.looper;
   number = h.number;
-  plays = λ on. subst (λ (z : Parts). HasPlayedBy s began (with_parts l last z)) (sym (same on)) h.plays on;
-  clocked = λ on. subst (λ (z : Parts). StaysByClock m began (with_parts l last z)) (sym (same on)) h.clocked on;
+  plays = λ on. subst (λ (z : Parts). HasPlayedBy s began (looper_with_parts l last z)) (sym (same on)) h.plays on;
+  clocked = λ on. subst (λ (z : Parts). StaysByClock m began (looper_with_parts l last z)) (sym (same on)) h.clocked on;
   grew = h.grew;
 }
 
 module _ (shows : ℕ → Bool) (start : ℕ) (s : Script) (hall : Hall) (l : StageLooper) (is_hall : IsHall s hall) (is : IsLooper s hall l) (mode : hall.lockstep ≡ false) where
   module _ (going : (is_ended l.last ≡ false) × (is_given_up l.last ≡ false)) (q : Shared TableId) (at : slice_get hall.queues.items l.number ≡ Some q) (parts : Parts) (after : Looping) (last : Round) where
     -- it has gone on so far as it played, looked and told
-    looped : IsLooper s hall (with_parts (record l { looper = after }) last parts) → after.held.poster.sender ≡ l.looper.held.poster.sender
+    looped : IsLooper s hall (looper_with_parts (record l { looper = after }) last parts) → after.held.poster.sender ≡ l.looper.held.poster.sender
         → (is_given_up last ≡ false → IsPlayingAt (in_free_mode shows start) s l.number l after.held.poster.sender after.held.poster.view.seen after.held.journal.acts parts)
         → (is_given_up last ≡ false → (more : List Entry) × (after.held.poster.view.seen ≡ l.looper.held.poster.view.seen ++ more)
         × AreLooksBy shows start q.constants.setting l.looper.held.poster.sender l.looper.held.poster.view.seen more)
         → (is_given_up last ≡ false → GoesOnFrom l.looper after)
-        → HasLooped (in_free_mode shows start) s hall l (with_parts (record l { looper = after }) last parts)
+        → HasLooped (in_free_mode shows start) s hall l (looper_with_parts (record l { looper = after }) last parts)
     looped left same plays looks grew =
         let set = q.constants.setting in
         let free = setting_free s hall l.number q mode (looper_of s hall l is_hall is) at in
@@ -94,15 +94,15 @@ module _ (shows : ℕ → Bool) (start : ℕ) (s : Script) (hall : Hall) (l : St
       plays_here h =
           subst (λ (x : ClockOwner). IsPlayingAt x.mode x.owner.script x.owner.number x.owner.began after.held.poster.sender after.held.poster.view.seen after.held.journal.acts parts) own h
 
-      looped_there : HasLooped (in_free_mode shows start) s hall l (with_parts (record l { looper = after }) last parts)
-          → HasLooped o.mode o.owner.script o.owner.hall o.owner.began (with_parts (record n { looper = after }) last parts)
+      looped_there : HasLooped (in_free_mode shows start) s hall l (looper_with_parts (record l { looper = after }) last parts)
+          → HasLooped o.mode o.owner.script o.owner.hall o.owner.began (looper_with_parts (record n { looper = after }) last parts)
       looped_there h =
-          subst (λ (x : ClockOwner). HasLooped x.mode x.owner.script x.owner.hall x.owner.began (with_parts (record n { looper = after }) last parts)) (sym own)
-          (subst (λ (z : StageLooper). HasLooped (in_free_mode shows start) s hall l (with_parts (record z { looper = after }) last parts)) (sym taken) h)
+          subst (λ (x : ClockOwner). HasLooped x.mode x.owner.script x.owner.hall x.owner.began (looper_with_parts (record n { looper = after }) last parts)) (sym own)
+          (subst (λ (z : StageLooper). HasLooped (in_free_mode shows start) s hall l (looper_with_parts (record z { looper = after }) last parts)) (sym taken) h)
 
       pub looped_by_round : (now : ℕ) → IsShown shows start now → RoundLeaves q.constants.setting now n.looper after last
           → (is_given_up last ≡ false → IsPlayingAt o.mode o.owner.script o.owner.number o.owner.began after.held.poster.sender after.held.poster.view.seen after.held.journal.acts parts)
-          → HasLooped o.mode o.owner.script o.owner.hall o.owner.began (with_parts (record n { looper = after }) last parts)
+          → HasLooped o.mode o.owner.script o.owner.hall o.owner.began (looper_with_parts (record n { looper = after }) last parts)
       looped_by_round now shown leaves meets =
           let set = q.constants.setting in
           let left : RoundLeaves set now l.looper after last = subst (λ (z : StageLooper). RoundLeaves set now z.looper after last) taken leaves in
@@ -113,12 +113,12 @@ module _ (shows : ℕ → Bool) (start : ℕ) (s : Script) (hall : Hall) (l : St
 
       pub looped_by_loop : (called : ℕ → List Listening → List Listening → Type 0) (cap : Option ℕ) (how : Loop) → last ≡ round_of how → LoopLeaves called shows start cap q.constants.setting n.looper after how
           → (is_given_up (round_of how) ≡ false → IsPlayingAt o.mode o.owner.script o.owner.number o.owner.began after.held.poster.sender after.held.poster.view.seen after.held.journal.acts parts)
-          → HasLooped o.mode o.owner.script o.owner.hall o.owner.began (with_parts (record n { looper = after }) last parts)
+          → HasLooped o.mode o.owner.script o.owner.hall o.owner.began (looper_with_parts (record n { looper = after }) last parts)
       looped_by_loop called cap how is_last leaves meets =
           let set = q.constants.setting in
           let left : LoopLeaves called shows start cap set l.looper after how = subst (λ (z : StageLooper). LoopLeaves called shows start cap set z.looper after how) taken leaves in
           let lost : is_given_up last ≡ false → is_given_up (round_of how) ≡ false = λ on. ap is_given_up (sym is_last) ∙ on in
-          looped_there (looped (subst (λ (r : Round). IsLooper s hall (with_parts (record l { looper = after }) r parts)) (sym is_last)
+          looped_there (looped (subst (λ (r : Round). IsLooper s hall (looper_with_parts (record l { looper = after }) r parts)) (sym is_last)
           (looper_by_loop shows start cap called s hall l q parts after how is_hall is at are left.same left.ended left.loops left.steps going.0 going.1)) left.same.sender
           (λ on. plays_here (meets (lost on)))
           (λ on. (let w = worked shows start cap set l.looper.held after.held how (lost on) left.loops in (w.more, w.seen, w.looks)))

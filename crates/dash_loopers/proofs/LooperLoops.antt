@@ -18,10 +18,10 @@ use Rattle.looper_run.specs.declared.step.Step.{Step}
 use Rattle.looper_run.specs.declared.step.Step.TheVariants as step
 use Rattle.looper_run.specs.declared.looper.Round.{Round}
 use Rattle.looper_run.specs.Holding.{Sender, State, Holding, Looping}
-use Rattle.looper_run.specs.Acts.{taken_by, entry_dispatch}
+use Rattle.looper_run.specs.Acts.{taken_messages, entry_dispatch}
 use Rattle.looper_run.specs.Asked.{Listening}
 use Rattle.looper_run.specs.Looks.{by_poster, IsBegun}
-use Rattle.looper_run.specs.Loops.{WorksOn, HasWaitedLong, GoesOn, HasStepped, Stepped, IsLoop, LastWait, LoopBy, is_over as ends}
+use Rattle.looper_run.specs.Loops.{IsLoopPart, HasWaitedLong, LooksAgain, HasStepped, Stepped, IsLoop, LastWait, LoopBy, has_ended_looper as ends}
 use Rattle.looper_run.specs.Round.{is_ended}
 use Rattle.run_model.specs.Planned.{entries_by}
 use Rattle.dash_loopers.specs.Loopers.{calls_among, DisposesAtEnd, is_given_up, round_of}
@@ -34,7 +34,7 @@ use Rattle.looper_run.specs.Holding.{Workplace, workplace}
 use Rattle.looper_run.specs.Loops.{IsStill, UnlessLost}
 use Rattle.std.specs.Option.{IsSomeAnd}
 use Rattle.std.proofs.Common.{None}
-use Rattle.run_model.specs.Loopers.{Looper}
+use Rattle.run_model.specs.Loopers.{LooperState}
 use Rattle.dash_loopers.specs.Played.{AreAlike, StandsBy, ComesBy, IsPlayingBy, HasPlayedBy}
 use Rattle.dash_hall.specs.declared.hall.Hall.{Hall}
 use Rattle.dash_hall.specs.Kits.{IsHall}
@@ -47,15 +47,15 @@ use Rattle.dash_loopers.proofs.LooperKits.{looper_of}
 module _ (shows : ℕ → Bool) (start : ℕ) where
   -- ---- what was taken is told
 
-  told_on : (s : Setting) (before after : Holding) → WorksOn shows start s before after → dispatches before.journal.acts ≡ taken_by before.poster.sender before.poster.view.seen
-      → dispatches after.journal.acts ≡ taken_by before.poster.sender after.poster.view.seen
+  told_on : (s : Setting) (before after : Holding) → IsLoopPart shows start s before after → dispatches before.journal.acts ≡ taken_messages before.poster.sender before.poster.view.seen
+      → dispatches after.journal.acts ≡ taken_messages before.poster.sender after.poster.view.seen
   told_on s before after w told =
       ap dispatches w.acts ∙ (filter_map-append act_dispatch before.journal.acts w.did
       ∙ (ap₂ (λ a b. a ++ b) told w.told
-      ∙ (sym (filter_map-append (entry_dispatch before.poster.sender) before.poster.view.seen w.more) ∙ ap (taken_by before.poster.sender) (sym w.seen))))
+      ∙ (sym (filter_map-append (entry_dispatch before.poster.sender) before.poster.view.seen w.more) ∙ ap (taken_messages before.poster.sender) (sym w.seen))))
 
   pub told_by_loop : (cap : Option ℕ) (s : Setting) (before after : Holding) (how : Loop) → LoopBy shows start cap s before after how → is_given_up (round_of how) ≡ false
-      → dispatches before.journal.acts ≡ taken_by before.poster.sender before.poster.view.seen → dispatches after.journal.acts ≡ taken_by before.poster.sender after.poster.view.seen
+      → dispatches before.journal.acts ≡ taken_messages before.poster.sender before.poster.view.seen → dispatches after.journal.acts ≡ taken_messages before.poster.sender after.poster.view.seen
   told_by_loop cap s before after loop.Ended l going told = told_on s before after l.0 told
   told_by_loop cap s before after (loop.Cap now) l going told = told_on s before after l.0 told
   told_by_loop cap s before after loop.Nudged l going told = told_on s before after l.0 told
@@ -89,7 +89,7 @@ module _ (shows : ℕ → Bool) (start : ℕ) where
   calls_waited : (cap : Option ℕ) (a b : Looping) → HasWaitedLong shows start cap a b → Calls a.held.poster b.held.poster
   calls_waited cap a b (p, n, slept, is) = calls_then a.held.poster p b.held.poster (calls_slept a.idle_owed cap n a.held.poster p slept) (calls_none p b.held.poster (ap (λ (l : Looping). l.held.poster) is))
 
-  calls_step : (cap : Option ℕ) (r : Step) (a b : Looping) → GoesOn r → HasStepped shows start cap a b r → Calls a.held.poster b.held.poster
+  calls_step : (cap : Option ℕ) (r : Step) (a b : Looping) → LooksAgain r → HasStepped shows start cap a b r → Calls a.held.poster b.held.poster
   calls_step cap step.Dispatched a b goes (slept, waited, now, moment, done) = calls_then a.held.poster slept.held.poster b.held.poster (calls_waited cap a slept waited) (calls_taken now slept b done.0)
   calls_step cap step.Idled a b goes (slept, waited, now, moment, done) = calls_then a.held.poster slept.held.poster b.held.poster (calls_waited cap a slept waited) (calls_idle now slept b done)
   calls_step cap (step.Waits until) a b goes (slept, waited, now, moment, done) =
@@ -171,8 +171,8 @@ looper_by_loop shows start cap called s hall l q parts' after how is_hall is at 
       ended = ended ∙ ends_same how;
       told = λ on.
           let mine = is.own in
-          let before = subst (λ (n : ℕ). dispatches l.looper.held.journal.acts ≡ taken_by n l.looper.held.poster.view.seen) (sym mine) (is.told going) in
-          subst (λ (n : ℕ). dispatches after.held.journal.acts ≡ taken_by n after.held.poster.view.seen) mine (told_by_loop shows start cap q.constants.setting l.looper.held after.held how loops on before);
+          let before = subst (λ (n : ℕ). dispatches l.looper.held.journal.acts ≡ taken_messages n l.looper.held.poster.view.seen) (sym mine) (is.told going) in
+          subst (λ (n : ℕ). dispatches after.held.journal.acts ≡ taken_messages n after.held.poster.view.seen) mine (told_by_loop shows start cap q.constants.setting l.looper.held after.held how loops on before);
       over = λ over. subst (λ (c : Constants TableId). is_over (empty_base c.setting.senders) after.held.poster.view.seen ≡ true) (queue_is s hall l.number of l.number q at)
           (over_by_loop shows start cap q.constants.setting l.looper.held after.held how q.constants (still.constants ∙ (is.place.queue q at).1) loops over);
       disposes = disposes_by_loop shows start l.sender cap l.looper after is.own (open_before l.last (entries_by l.sender l.looper.held.poster.view.seen) unended going is.disposes) called how steps;
@@ -186,8 +186,8 @@ unless_lost (loop.Cap now) P going h = h
 unless_lost loop.Nudged P going h = h
 unless_lost loop.NoMemory P going h = absurd cc
 
--- what it did, unless memory was wanting
-pub worked : (shows : ℕ → Bool) (start : ℕ) (cap : Option ℕ) (s : Setting) (before after : Holding) (how : Loop) → is_given_up (round_of how) ≡ false → LoopBy shows start cap s before after how → WorksOn shows start s before after
+-- what it did, unless memory ran out
+pub worked : (shows : ℕ → Bool) (start : ℕ) (cap : Option ℕ) (s : Setting) (before after : Holding) (how : Loop) → is_given_up (round_of how) ≡ false → LoopBy shows start cap s before after how → IsLoopPart shows start s before after
 worked shows start cap s before after loop.Ended going l = l.0
 worked shows start cap s before after (loop.Cap now) going l = l.0
 worked shows start cap s before after loop.Nudged going l = l.0
@@ -208,7 +208,7 @@ plays_then s a b c number sender going first next = λ on text did x come. (
     (subst (λ (k : ℕ). IsSomeAnd c.parts (ComesBy s b.number k c.looper.held.poster.view.seen c.looper.held.journal.acts)) sender (next on text here.0 here.1 here.2)))
   where
     from : (o : Option Parts) → IsSomeAnd o (ComesBy s a.number a.sender b.looper.held.poster.view.seen b.looper.held.journal.acts)
-        → (did : Looper) × (x : Looper) × (AreAlike did x × IsSomeAnd o (λ parts. StandsBy false s b.number b.sender b.looper.held.poster.view.seen b.looper.held.journal.acts parts did x))
+        → (did : LooperState) × (x : LooperState) × (AreAlike did x × IsSomeAnd o (λ parts. StandsBy false s b.number b.sender b.looper.held.poster.view.seen b.looper.held.journal.acts parts did x))
     from None h = absurd h
     from (Some parts) h = (
       h.did,

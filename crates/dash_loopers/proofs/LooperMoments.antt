@@ -33,9 +33,9 @@ use Rattle.looper_run.specs.Holding.{Sender, Holding, Looping, workplace}
 use Rattle.looper_run.specs.Acts.{moment_on, IsLookAt, AreLooksAt}
 use Rattle.looper_run.specs.Loops.{IsLookBy, AreLooksBy}
 use Rattle.looper_run.proofs.Working.{lent_self}
-use Rattle.looper_run.specs.Tests.{Passes, PassesWith, IsLent, HasTaken, Unless, Intercepts}
+use Rattle.looper_run.specs.Tests.{Passes, PassesWith, IsLent, HasTakenMessage, Unless, Intercepts}
 use Rattle.dash_script.specs.declared.script.Script.{Script}
-use Rattle.run_model.specs.Moments.{Mode, IsMoment, IsOfClock, AreOfClockAfter}
+use Rattle.run_model.specs.Moments.{Mode, IsMomentOf, IsOfClock, AreOfClockAfter}
 use Rattle.run_model.specs.ByClock.{in_free_mode}
 use Rattle.dash_hall.specs.declared.hall.Hall.{Hall}
 use Rattle.dash_hall.specs.ByClock.{is_by, IsByClock, IsInMode, AddsByClock}
@@ -113,12 +113,12 @@ module _ (m : Mode) (s : Script) (q : ℕ) (began : StageLooper) where
       (λ h. at_more before.poster after.poster after.journal.acts parts parts' lent.same.sender (calls.own m) calls.others at.calls at.others h) plays
 
   -- what was taken, as it plays
-  pub taken_plays : (before : Holding) (node : Node) (time : ℕ) (parts : Parts) → HasTaken (λ k es acts. IsPlayingAt m s q began k es acts parts) before node time → HasTaken (λ k es acts. IsPlayingBy s q began k es acts parts) before node time
+  pub taken_plays : (before : Holding) (node : Node) (time : ℕ) (parts : Parts) → HasTakenMessage (λ k es acts. IsPlayingAt m s q began k es acts parts) before node time → HasTakenMessage (λ k es acts. IsPlayingBy s q began k es acts parts) before node time
   taken_plays before node time parts t = record { past = t.past; take = t.take; seen = t.seen; is_take = t.is_take; post = t.post; passes = t.passes.plays }
 
   -- a message was dispatched
   pub dispatched_at : (before after : Holding) (node : Node) (time : ℕ) (route : Route) (parts parts' : Parts) → IsLent before after → AddsByClock m before.poster after.poster → AreUntimed parts.others.items parts'.others.items
-      → HasTaken (λ k es acts. IsPlayingAt m s q began k es acts parts) before node time
+      → HasTakenMessage (λ k es acts. IsPlayingAt m s q began k es acts parts) before node time
       → PassesWith (λ k es acts. IsPlayingBy s q began k es acts parts') after node time route → PassesWith (λ k es acts. IsPlayingAt m s q began k es acts parts') after node time route
   dispatched_at before after node time route parts parts' lent adds others t plays =
       let looked = calls_beside m before.poster.sender began.looper.held.poster.view.seen t.past t.take (no_call_by_look before.poster.sender t.take time t.is_take.call) t.passes.calls in
@@ -126,7 +126,7 @@ module _ (m : Mode) (s : Script) (q : ℕ) (began : StageLooper) where
       (subst (λ (l : List Entry). CallsByClock m before.poster.sender began.looper.held.poster.view.seen l) (sym t.seen) looked) t.passes.others plays
 
   pub dispatch_at : (d : Did) (before after : Holding) (node : Node) (time : ℕ) (route : Route) (parts parts' : Parts) → IsLent before after → AddsByClock m before.poster after.poster → AreUntimed parts.others.items parts'.others.items
-      → HasTaken (λ k es acts. IsPlayingAt m s q began k es acts parts) before node time
+      → HasTakenMessage (λ k es acts. IsPlayingAt m s q began k es acts parts) before node time
       → Unless d (PassesWith (λ k es acts. IsPlayingBy s q began k es acts parts') after node time route) → Unless d (PassesWith (λ k es acts. IsPlayingAt m s q began k es acts parts') after node time route)
   dispatch_at d before after node time route parts parts' lent adds others t plays =
       unless_with d (PassesWith (λ k es acts. IsPlayingBy s q began k es acts parts') after node time route) (PassesWith (λ k es acts. IsPlayingAt m s q began k es acts parts') after node time route)
@@ -139,7 +139,7 @@ pub rules_at_once : (q u now : ℕ) (m : PostData) → (goes_to_rules q m ≡ tr
 rules_at_once q u now m once none not_frame = once (λ i. not (not_frame i) && not (is_some (none i)))
 
 -- what a delivery adds, by the message
-pub delivered_adds : (m : Mode) (q u : ℕ) (p : PostData) (own own' : Sender) (parts parts' : Parts) → m.lockstep ≡ false → IsInMode m own → (goes_to_rules q p ≡ false → IsMoment m u) → DeliversAt q u p own own' parts parts' → AddsByClock m own own'
+pub delivered_adds : (m : Mode) (q u : ℕ) (p : PostData) (own own' : Sender) (parts parts' : Parts) → m.lockstep ≡ false → IsInMode m own → (goes_to_rules q p ≡ false → IsMomentOf m u) → DeliversAt q u p own own' parts parts' → AddsByClock m own own'
 delivered_adds m q u p own own' parts parts' free mode moment d = go (goes_to_rules q p) refl
   where
     go : (b : Bool) → goes_to_rules q p ≡ b → AddsByClock m own own'
@@ -147,7 +147,7 @@ delivered_adds m q u p own own' parts parts' free mode moment d = go (goes_to_ru
     go false is = d.timed is m free mode (moment is)
 
 -- a moment that the clock shows is one of the mode
-pub of_shown : (shows : ℕ → Bool) (start u : ℕ) → IsShown shows start u → IsMoment (in_free_mode shows start) u
+pub of_shown : (shows : ℕ → Bool) (start u : ℕ) → IsShown shows start u → IsMomentOf (in_free_mode shows start) u
 of_shown shows start u h = record { reading = h.reading; shown = h.shown; since = h.since }
 
 -- the looper's queue is in the mode of the hall
@@ -161,7 +161,7 @@ in_the_mode m s hall n h mode of place =
 pub delivery_at : {A E : Type 0} (shows : ℕ → Bool) (start : ℕ) (s : Script) (hall : Hall) (q : ℕ) (began : StageLooper) (node : Node) (now at : ℕ) (route : Route) (letter : PostData) (r : Result A E) (d : Did) (h k : Holding) (parts parts' : Parts)
     → ServesFree s hall q parts (workplace h) → letter ≡ post_of node.item → (goes_to_rules q letter ≡ true → at ≡ now) → (goes_to_rules q letter ≡ false → IsShown shows start at)
     → IsLent h k → DeliversAt q at letter h.poster k.poster parts parts' → OnOk r (Delivers s q at (is_shown shows start) letter (calls_of h.poster) (calls_of k.poster) parts parts' h.journal.acts k.journal.acts)
-    → HasTaken (λ n es acts. IsPlayingAt (in_free_mode shows start) s q began n es acts parts) h node now → (d ≡ No → ⊥) → (d ≡ Yes → is_ok r ≡ true)
+    → HasTakenMessage (λ n es acts. IsPlayingAt (in_free_mode shows start) s q began n es acts parts) h node now → (d ≡ No → ⊥) → (d ≡ Yes → is_ok r ≡ true)
     → Unless d (PassesWith (λ n es acts. IsPlayingAt (in_free_mode shows start) s q began n es acts parts') k node now route)
 delivery_at shows start s hall q began node now at route letter r d h k parts parts' serves is rules read lent clocked delivers taken never well =
     let m = in_free_mode shows start in
@@ -172,7 +172,7 @@ delivery_at shows start s hall q began node now at route letter r d h k parts pa
     lent (taken_plays m s q began h node now parts taken) delivers never well)
 
 -- a message's own callback ran, and called nothing
-pub callback_at : (shows : ℕ → Bool) (start : ℕ) (s : Script) (q : ℕ) (began : StageLooper) (node : Node) (now id : ℕ) (h : Holding) (parts : Parts) → HasTaken (λ n es acts. IsPlayingAt (in_free_mode shows start) s q began n es acts parts) h node now
+pub callback_at : (shows : ℕ → Bool) (start : ℕ) (s : Script) (q : ℕ) (began : StageLooper) (node : Node) (now id : ℕ) (h : Holding) (parts : Parts) → HasTakenMessage (λ n es acts. IsPlayingAt (in_free_mode shows start) s q began n es acts parts) h node now
     → (post_of node.item).callback ≡ Some id → PassesWith (λ n es acts. IsPlayingAt (in_free_mode shows start) s q began n es acts parts) h node now (Callback id)
 callback_at shows start s q began node now id h parts taken is =
     let m = in_free_mode shows start in
@@ -184,12 +184,12 @@ callback_at shows start s q began node now id h parts taken is =
 
 module _ (shows : ℕ → Bool) (start : ℕ) (set : Setting) (mode : set.lockstep ≡ false) where
   -- the moment of a look is one of the clock, or the queue's time
-  look_moment : (past : List Entry) (at : ℕ) → IsLookBy shows start set past (Next at) → IsMoment (in_free_mode shows start) at ⊎ (at ≡ clock (empty_base 0) past)
+  look_moment : (past : List Entry) (at : ℕ) → IsLookBy shows start set past (Next at) → IsMomentOf (in_free_mode shows start) at ⊎ (at ≡ clock (empty_base 0) past)
   look_moment past at (now, shown, is) =
       let chosen = (taken set.lockstep now (clock (empty_base set.senders) past) mode).0 in
       let here = of_either (in_free_mode shows start) (clock (empty_base set.senders) past) now (moment_on set past now) chosen (of_shown shows start now shown) in
-      subst (λ (t : ℕ). IsMoment (in_free_mode shows start) at ⊎ (at ≡ t)) (clock_same set.senders past)
-      (subst (λ (n : ℕ). IsMoment (in_free_mode shows start) n ⊎ (n ≡ clock (empty_base set.senders) past)) (sym is) here)
+      subst (λ (t : ℕ). IsMomentOf (in_free_mode shows start) at ⊎ (at ≡ t)) (clock_same set.senders past)
+      (subst (λ (n : ℕ). IsMomentOf (in_free_mode shows start) n ⊎ (n ≡ clock (empty_base set.senders) past)) (sym is) here)
 
   one_of : (k : ℕ) (past : List Entry) (sender : ℕ) (c : Call) → (sender == k) ≡ true → MatchBool ((sender == k) && not (is_next c)) (IsOfClock (in_free_mode shows start) (clock (empty_base 0) past) c) (Unit {0}) → IsLookBy shows start set past c → IsOfClock (in_free_mode shows start) (clock (empty_base 0) past) c
   one_of k past sender (Post p) own h look = tt
@@ -297,7 +297,7 @@ playing_at_start m s l began parts same e mine = subst (λ (b : StageLooper). Is
 pub setting_free : (s : Script) (hall : Hall) (n : ℕ) (q : Shared TableId) → hall.lockstep ≡ false → IsLooperOf s hall n → slice_get hall.queues.items n ≡ Some q → q.constants.setting.lockstep ≡ false
 setting_free s hall n q mode of at = ap (λ (c : Constants TableId). c.setting.lockstep) (queue_is s hall n of n q at) ∙ mode
 
--- what a round did, unless memory was wanting
+-- what a round did, unless memory ran out
 pub round_worked : (set : Setting) (now : ℕ) (before after : Holding) (last : Round) → is_given_up last ≡ false → RoundBy set now before after last → RoundWorked set now before after
 round_worked set now before after (Drained dispatched until) going r = record { more = r.0.more; did = r.0.did; seen = r.0.seen; acts = r.0.acts; looks = r.0.looks }
 round_worked set now before after (Ended dispatched) going r = record { more = r.0.more; did = r.0.did; seen = r.0.seen; acts = r.0.acts; looks = r.0.looks }

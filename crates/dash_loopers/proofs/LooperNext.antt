@@ -8,11 +8,11 @@ use Rattle.loop_model.proofs.Prefixes.{prefix_self, prefix_trans, prefix_length}
 use Rattle.dash_script.specs.declared.script.Script.{Script}
 use Rattle.looper_run.specs.Holding.{Sender, Looping}
 use Rattle.looper_run.specs.Round.{is_ended}
-use Rattle.choreographer.specs.Known.{Known as Pass}
+use Rattle.choreographer.specs.Known.{Pass}
 use Rattle.choreographer.specs.Calls.{AskedBy}
 use Rattle.choreographer.proofs.Recorded.{asked_records}
 use Rattle.run_model.specs.FrameRecords.{millis_up, asks_in, as_told}
-use Rattle.run_model.specs.Loopers.{Looper}
+use Rattle.run_model.specs.Loopers.{LooperState}
 use Rattle.run_model.specs.Moments.{Mode}
 use Rattle.dash_hall.specs.declared.hall.Hall.{Hall}
 use Rattle.dash_hall.specs.Kits.{IsHall}
@@ -79,7 +79,7 @@ posters_asked l parts e = ap (λ (o : Option Parts). insert (others_in o) l.numb
 pub played_self : (s : Script) (l : StageLooper) → HasPlayedBy s l l
 played_self s l = λ going text did a come. from l.parts did a come.0 come.1
   where
-    from : (o : Option Parts) (did a : Looper) → AreAlike did a → IsSomeAnd o (λ parts. StandsBy false s l.number l.sender l.looper.held.poster.view.seen l.looper.held.journal.acts parts did a)
+    from : (o : Option Parts) (did a : LooperState) → AreAlike did a → IsSomeAnd o (λ parts. StandsBy false s l.number l.sender l.looper.held.poster.view.seen l.looper.held.journal.acts parts did a)
         → IsSomeAnd o (ComesBy s l.number l.sender l.looper.held.poster.view.seen l.looper.held.journal.acts)
     from None did a alike h = absurd h
     from (Some parts) did a alike h = record { did = did; state = a; alike = alike; stands = h }

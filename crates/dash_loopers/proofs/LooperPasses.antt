@@ -3,30 +3,30 @@ use Rattle.std.proofs.Common.{◌≡◌, [], Option, Some, None, refl, sym, ap, 
 use Rattle.std.specs.Prelude.{IsSome, is_some}
 use Rattle.std.proofs.lemmas.Option.{same_Some}
 use Rattle.frame_phases.specs.Parting.{dealt_to}
-use Rattle.choreographer.specs.Known.{Known as Pass}
-use Rattle.choreographer.specs.Turn.{entries_of}
+use Rattle.choreographer.specs.Known.{Pass}
+use Rattle.choreographer.specs.Turn.{made_entries}
 use Rattle.dash_hall.specs.Hearing.{HasHeardAll}
 use Rattle.dash_hall.proofs.PassesHearing.{pass_heard_self, pass_heard_then}
 use Rattle.dash_loopers.specs.declared.view_root.ViewRoot.{ViewRoot}
 use Rattle.dash_loopers.specs.declared.player.Parts.{Parts}
-use Rattle.dash_loopers.specs.Loopers.{Rest, RestHasHeard, MayHaveHeard, rest_in}
+use Rattle.dash_loopers.specs.Loopers.{LooperRest, RestHasHeard, MayHaveHeard, rest_in}
 
 -- a pass that has heard of nothing, seen nothing and recorded nothing has heard all there is
 pub unheard_all : (p : Pass) → p.view.heard ≡ [] → p.view.seen ≡ [] → p.view.own ≡ [] → HasHeardAll [] p
 unheard_all p heard seen own = (
-  record { seen = ap entries_of heard ∙ sym seen; own = ap (dealt_to p.number) heard ∙ sym own; numbers = λ c is n le. ap (dealt_to n) heard },
+  record { seen = ap made_entries heard ∙ sym seen; own = ap (dealt_to p.number) heard ∙ sym own; numbers = λ c is n le. ap (dealt_to n) heard },
   heard,
 )
 
 -- the rest as it is
-pub rest_self : (r : Rest) → RestHasHeard r r
+pub rest_self : (r : LooperRest) → RestHasHeard r r
 rest_self r = record { frames = pass_heard_self r.frames; client = pass_heard_self r.root.pass; root = refl; fired = refl; passed = refl; awaits = refl }
 
-pub may_self : (o : Option Rest) → MayHaveHeard o o
+pub may_self : (o : Option LooperRest) → MayHaveHeard o o
 may_self o r is = (r, is, rest_self r)
 
 -- one after the other
-pub rest_then : (x y z : Rest) → RestHasHeard x y → RestHasHeard y z → RestHasHeard x z
+pub rest_then : (x y z : LooperRest) → RestHasHeard x y → RestHasHeard y z → RestHasHeard x z
 rest_then x y z f g = record {
   frames = pass_heard_then x.frames y.frames z.frames f.frames g.frames;
   client = pass_heard_then x.root.pass y.root.pass z.root.pass f.client g.client;
@@ -36,19 +36,19 @@ rest_then x y z f g = record {
   awaits = g.awaits ∙ f.awaits;
 }
 
-pub may_then : (a b c : Option Rest) → MayHaveHeard a b → MayHaveHeard b c → MayHaveHeard a c
+pub may_then : (a b c : Option LooperRest) → MayHaveHeard a b → MayHaveHeard b c → MayHaveHeard a c
 may_then a b c f g r is =
     let one = f r is in
     let two = g one.0 one.1 in
     (two.0, two.1, rest_then r one.0 two.0 one.2 two.2)
 
 -- what is the same may have heard
-pub may_same : (a b : Option Rest) → b ≡ a → MayHaveHeard a b
+pub may_same : (a b : Option LooperRest) → b ≡ a → MayHaveHeard a b
 may_same a b same = subst (MayHaveHeard a) (sym same) (may_self a)
 
 -- where it is there it has heard
-pub may_one : (r r' : Rest) → RestHasHeard r r' → MayHaveHeard (Some r) (Some r')
-may_one r r' h x is = let same : r ≡ x = same_Some r x is in (r', refl, subst (λ (z : Rest). RestHasHeard z r') same h)
+pub may_one : (r r' : LooperRest) → RestHasHeard r r' → MayHaveHeard (Some r) (Some r')
+may_one r r' h x is = let same : r ≡ x = same_Some r x is in (r', refl, subst (λ (z : LooperRest). RestHasHeard z r') same h)
 
 -- the rest is there where the parts are
 rest_there : (o : Option Parts) → is_some (rest_in o) ≡ is_some o

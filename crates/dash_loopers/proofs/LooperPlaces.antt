@@ -12,7 +12,7 @@ use Rattle.shared_queue.specs.Known.{Shared, IsOf}
 use Rattle.looper_run.specs.Holding.{Sender, Holding, Workplace, workplace}
 use Rattle.looper_run.specs.Tests.{IsSameLooper}
 use Rattle.looper_run.proofs.Steps.{workplace_same}
-use Rattle.choreographer.specs.Known.{Shared as Frames, Known as Pass, IsOf as IsFrameOf, MayDeliver, IfAlone}
+use Rattle.choreographer.specs.Known.{SharedFrames, Pass, IsPassOf, MayDeliver, IfAlone}
 use Rattle.dash_hall.specs.declared.hall.Hall.{Hall}
 use Rattle.dash_loopers.specs.declared.player.Parts.{Parts}
 use Rattle.dash_loopers.specs.declared.player.Place.{Place}
@@ -23,7 +23,7 @@ use Rattle.dash_loopers.specs.Players.{ServesAt, AreSameParts, PlaceWithout}
 use Rattle.dash_loopers.specs.Played.{HasLatest}
 use Rattle.dash_loopers.proofs.LooperLists.{at_removed, within_removed, map_set_same}
 
-pub frame_of_badge : (n : ℕ) (p : Pass) (c : Frames) → frame_badge_of p ≡ frame_badge_for n c → IsFrameOf p c
+pub frame_of_badge : (n : ℕ) (p : Pass) (c : SharedFrames) → frame_badge_of p ≡ frame_badge_for n c → IsPassOf p c
 frame_of_badge n p c e = (ap (λ (b : FrameBadge). b.table) e, ap (λ (b : FrameBadge). b.constants) e)
 
 pub of_badge : (k : ℕ) (p : Sender) (q : Shared TableId) → badge_of p ≡ badge_for k q → IsOf p q
@@ -54,29 +54,29 @@ module _ (s : Script) (hall : Hall) (n : ℕ) (l : IsLooperOf s hall n) where
   pub queue_home : (i : ℕ) (q : Shared TableId) → slice_get hall.queues.items i ≡ Some q → q.constants.home ≡ hall.pool
   queue_home i q at = ap (λ c. c.home) (queue_is i q at)
 
-  frame_constants_are : (c : Frames) → slice_get hall.choreographers.items n ≡ Some c → c.constants ≡ frame_constants s n
+  frame_constants_are : (c : SharedFrames) → slice_get hall.choreographers.items n ≡ Some c → c.constants ≡ frame_constants s n
   frame_constants_are c at =
-      ap (λ (z : Frames). z.constants) (sym (get_or_from_slice_get hall.choreographers.items n c c at))
+      ap (λ (z : SharedFrames). z.constants) (sym (get_or_from_slice_get hall.choreographers.items n c c at))
       ∙ choreographer_at s hall.choreographers.items l.is_hall.choreographers n c l.one
 
-  pub its_phases : (c : Frames) → slice_get hall.choreographers.items n ≡ Some c → c.constants.phases ≡ phase_count s.edition
+  pub its_phases : (c : SharedFrames) → slice_get hall.choreographers.items n ≡ Some c → c.constants.phases ≡ phase_count s.edition
   its_phases c at = ap (λ k. k.phases) (frame_constants_are c at)
 
-  pub its_period : (c : Frames) → slice_get hall.choreographers.items n ≡ Some c → c.constants.interval ≡ s.period
+  pub its_period : (c : SharedFrames) → slice_get hall.choreographers.items n ≡ Some c → c.constants.interval ≡ s.period
   its_period c at = ap (λ k. k.interval) (frame_constants_are c at)
 
   -- its first pass may deliver the pulses, and nobody else
-  its_pulses : (c : Frames) → slice_get hall.choreographers.items n ≡ Some c → c.constants.pulses ≡ Some s.threads
+  its_pulses : (c : SharedFrames) → slice_get hall.choreographers.items n ≡ Some c → c.constants.pulses ≡ Some s.threads
   its_pulses c at = ap (λ k. k.pulses) (frame_constants_are c at)
 
-  pub may_deliver : (c : Frames) → slice_get hall.choreographers.items n ≡ Some c → (p : Pass) → frame_badge_of p ≡ frame_badge_for s.threads c → MayDeliver p c
+  pub may_deliver : (c : SharedFrames) → slice_get hall.choreographers.items n ≡ Some c → (p : Pass) → frame_badge_of p ≡ frame_badge_for s.threads c → MayDeliver p c
   may_deliver c at p badge = λ k named.
       let both : Some s.threads ≡ Some k = sym (its_pulses c at) ∙ named in
       let same : s.threads ≡ k = cc (both) in
       ap (λ (b : FrameBadge). b.number) badge ∙ same
 
   -- a new pass has no stamp, and knows of no frame that is to begin
-  pub none_latest : (c : Frames) → slice_get hall.choreographers.items n ≡ Some c → (p : Pass) → frame_badge_of p ≡ frame_badge_for s.threads c → p.view.stamp ≡ 0 → p.view.awaits ≡ 0 → HasLatest p 0 false
+  pub none_latest : (c : SharedFrames) → slice_get hall.choreographers.items n ≡ Some c → (p : Pass) → frame_badge_of p ≡ frame_badge_for s.threads c → p.view.stamp ≡ 0 → p.view.awaits ≡ 0 → HasLatest p 0 false
   none_latest c at p badge none unawaited = record {
     key = c.constants;
     constants = ap (λ (b : FrameBadge). b.constants) badge;
@@ -160,7 +160,7 @@ parts_with a j p q b at e others frames root awaits = record {
 
 module _ {R : Type 0} (place : Place R) (parts : Parts) (w : Workplace) (serves : ServesAt place.script.now place.hall.now place.looper parts w) where
   -- the view root's pass is one of its choreographer, which has the phases up to 3
-  pub client_on : (c : Frames) → slice_get place.hall.now.choreographers.items place.looper ≡ Some c → IsFrameOf parts.root.pass c × (3 < c.constants.phases)
+  pub client_on : (c : SharedFrames) → slice_get place.hall.now.choreographers.items place.looper ≡ Some c → IsPassOf parts.root.pass c × (3 < c.constants.phases)
   client_on c at = (
     frame_of_badge (place.script.now.threads + 1) parts.root.pass c (serves.are_parts.client c at),
     (let phases = its_phases place.script.now place.hall.now place.looper serves.looper c at in omega (arith, phases, up_to_three place.script.now.edition)),

@@ -19,22 +19,22 @@ use Rattle.looper_run.specs.declared.looper.Round.TheVariants.{Drained, Ended, N
 use Rattle.looper_run.specs.Holding.{Sender, Looping}
 use Rattle.looper_run.specs.Round.{UnlessWanting}
 use Rattle.looper_run.specs.Tests.{Passes, IsSameLooper}
-use Rattle.choreographer.specs.Known.{Known as Pass}
+use Rattle.choreographer.specs.Known.{Pass}
 use Rattle.run_model.specs.Planned.{entries_by, AreFor, sender_count}
-use Rattle.run_model.specs.Loopers.{Looper, first_looper, Lead, IsSent, pulse_stamp, has_frames}
+use Rattle.run_model.specs.Loopers.{LooperState, first_looper, ActsLead, IsSent, pulse_stamp, has_frames}
 use Rattle.run_model.specs.Parts.{sent_on, asks_to_run}
 use Rattle.dash_hall.specs.declared.hall.Hall.{Hall}
 use Rattle.dash_hall.specs.declared.kit.Kit.{Kit}
 use Rattle.dash_hall.specs.Kits.{IsHall, AreUnseen}
 use Rattle.dash_hall.specs.Growth.{own}
-use Rattle.dash_hall.specs.Hosts.{asks_of}
+use Rattle.dash_hall.specs.Hosts.{pass_asks}
 use Rattle.run_model.specs.FrameRecords.{asks_in, as_told, nanos_of}
 use Rattle.dash_hall.proofs.FramePosts.{told_whole}
 use Rattle.dash_loopers.specs.declared.player.Parts.{Parts}
 use Rattle.dash_loopers.specs.declared.looper.StageLooper.{StageLooper}
 use Rattle.dash_loopers.specs.Players.{Owner}
 use Rattle.dash_loopers.specs.Loopers.{IsLooper, IsSoundOn, is_given_up}
-use Rattle.dash_loopers.specs.Played.{standing, fixed, fixed_by, IsBarrierOf, paint_of, calls_in, calls_of, IsPlayed, StandsBy, Stands, HasCome, HasComeBy, ComesTo, IsPlaying, HasPlayed, HasLeft, HasLatest}
+use Rattle.dash_loopers.specs.Played.{standing, gauge_fixed, fixed_by, IsBarrierOf, paint_of, calls_in, calls_of, IsPlayed, StandsBy, Stands, StandsBetweenRounds, StandsBetweenLoops, ComesTo, IsPlaying, HasPlayed, HasLeft, HasLatest}
 use Rattle.dash_loopers.proofs.OpenTimes.{alike_self}
 use Rattle.dash_loopers.proofs.LooperSeats.{its_place, at_other, within_others}
 use Rattle.dash_loopers.proofs.LooperKits.{looper_of, parts_of, others_many, own_again}
@@ -50,11 +50,11 @@ unseen_without xs n within unseen = λ j d near. by_order j d near (cases_lt j n
 
 -- a looper that has done nothing stands at the first state
 pub stands_first : (s : Script) (q k : ℕ) (seen : List Entry) (acts : List Act) (parts : Parts) → seen ≡ [] → acts ≡ []
-    → map standing parts.root.gauges.items ≡ replicate (length s.gauges) (record { value = 0; target = 0; animating = false }) → map fixed parts.root.gauges.items ≡ map (fixed_by s q) s.gauges
+    → map standing parts.root.gauges.items ≡ replicate (length s.gauges) (record { value = 0; target = 0; animating = false }) → map gauge_fixed parts.root.gauges.items ≡ map (fixed_by s q) s.gauges
     → parts.root.barrier ≡ None → parts.root.painted.items ≡ [] → parts.root.edition ≡ s.edition → AreUnseen parts.others.items → parts.fired.items ≡ replicate (length s.rules) 0 → parts.root.pass.view.own ≡ [] → parts.root.pass.view.turns ≡ 0 → parts.frames.view.own ≡ [] → HasLatest parts.frames 0 false → parts.awaits ≡ false → parts.frames.view.seen ≡ []
     → Stands s q k seen acts parts (first_looper s)
 stands_first s q k seen acts parts none still gauges lines barrier painted edition unseen fired unasked untaken unrun unpulsed unawaited unseen_frames = record {
-  led = λ fs begins law. subst (λ (xs : List Act). Lead s q seen fs (first_looper s) xs (first_looper s)) (sym still) refl;
+  led = λ fs begins law. subst (λ (xs : List Act). ActsLead s q seen fs (first_looper s) xs (first_looper s)) (sym still) refl;
   place = omega arith;
   moments = λ is fs begins law. refl;
   whole = λ fs begins law. refl;
@@ -87,13 +87,13 @@ stands_first s q k seen acts parts none still gauges lines barrier painted editi
 }
 
 -- where a looper stands in lockstep it stands as free mode tells it
-pub stands_free : (s : Script) (q k : ℕ) (es : List Entry) (acts : List Act) (parts : Parts) (a : Looper) → Stands s q k es acts parts a → StandsBy false s q k es acts parts a a
+pub stands_free : (s : Script) (q k : ℕ) (es : List Entry) (acts : List Act) (parts : Parts) (a : LooperState) → Stands s q k es acts parts a → StandsBy false s q k es acts parts a a
 stands_free s q k es acts parts a st = record {
   led = st.led;
   place = st.place;
   moments = λ is. absurd (let wrong : false ≡ true = is in cc);
   whole = st.whole;
-  ran = ap (map (as_told false)) (sym (told_whole (asks_of parts.frames)) ∙ (st.ran ∙ told_whole (asks_to_run a.frames)));
+  ran = ap (map (as_told false)) (sym (told_whole (pass_asks parts.frames)) ∙ (st.ran ∙ told_whole (asks_to_run a.frames)));
   settled = st.settled;
   latest_is = st.latest_is;
   awaits_is = st.awaits_is;
@@ -101,7 +101,7 @@ stands_free s q k es acts parts a st = record {
   played = st.played;
 }
 
-pub comes_free : (s : Script) (l : StageLooper) (a : Looper) → HasCome s l a → HasComeBy s l a a
+pub comes_free : (s : Script) (l : StageLooper) (a : LooperState) → StandsBetweenRounds s l a → StandsBetweenLoops s l a a
 comes_free s l a come = (alike_self a, from l.parts come)
   where
     from : (o : Option Parts) → IsSomeAnd o (λ parts. Stands s l.number l.sender l.looper.held.poster.view.seen l.looper.held.journal.acts parts a)
@@ -128,7 +128,7 @@ played_round s hall now l began o parts' after last same mine origin kept meets 
     subst (λ (b : StageLooper). IsPlaying s l.number now b after.held.poster.sender after.held.poster.view.seen after.held.journal.acts parts') same here in
     subst (λ (k : ℕ). ComesTo s l.number now a k l.looper.held.poster.view.seen after.held.poster.view.seen after.held.journal.acts parts') (kept.sender ∙ mine) (from text a come)
 
--- and with parts that are the same unless memory was wanting
+-- and with parts that are the same unless memory ran out
 pub played_left : (s : Script) (now : ℕ) (l : StageLooper) (after : Looping) (last : Round) (p q : Parts) → (is_given_up last ≡ false → q ≡ p)
     → HasPlayed s now l (record { number = l.number; sender = l.sender; looper = after; parts = Some p; last = last })
     → HasPlayed s now l (record { number = l.number; sender = l.sender; looper = after; parts = Some q; last = last })
@@ -140,11 +140,11 @@ played_left s now l after last p q same h = λ going.
 -- what it leaves tells where it stood
 pub left_by : (s : Script) (hall : Hall) (l : StageLooper) (parts : Parts) (j : Journal) (kit : Kit) → IsHall s hall → IsLooper s hall l → l.parts ≡ Some parts
     → kit.posters.items ≡ insert parts.others.items l.number l.looper.held.poster → kit.frames.items ≡ parts.frames ∷ parts.root.pass ∷ [] → j ≡ l.looper.held.journal
-    → (a : Looper) → HasCome s l a → HasLeft s l.number j kit a
+    → (a : LooperState) → StandsBetweenRounds s l a → HasLeft s l.number j kit a
 left_by s hall l parts j kit is_hall is e posters frames journal a come = record {
   led = λ d p fs begins law.
-      subst (λ (x : Sender). Lead s l.number x.view.seen fs (first_looper s) j.acts a) (sym (mine d))
-      (subst (λ (x : Journal). Lead s l.number l.looper.held.poster.view.seen fs (first_looper s) x.acts a) (sym journal)
+      subst (λ (x : Sender). ActsLead s l.number x.view.seen fs (first_looper s) j.acts a) (sym (mine d))
+      (subst (λ (x : Journal). ActsLead s l.number l.looper.held.poster.view.seen fs (first_looper s) x.acts a) (sym journal)
       (st.led fs (subst (λ (ps : List Pass). IsPrefix (slice_index_or ps 0 p).view.seen fs) frames begins) law));
   moments = λ p fs begins law. st.moments refl fs (subst (λ (ps : List Pass). IsPrefix (slice_index_or ps 0 p).view.seen fs) frames begins) law;
   pulses = λ d sound.
@@ -159,9 +159,9 @@ left_by s hall l parts j kit is_hall is e posters frames journal a come = record
       let within : k < length (insert parts.others.items l.number l.looper.held.poster) = subst (λ (ps : List Sender). k < length ps) posters near in
       subst (λ (x : Sender). AreFor IsSent [] (sent_on k a.sent) (own x)) (sym (ap (λ (ps : List Sender). get_or ps k d) posters ∙ at_other parts.others.items l.number many l.looper.held.poster d k w.0 w.1))
       (st.played.elsewhere k w.0 d w.1 (within_others parts.others.items l.number many l.looper.held.poster k w.0 w.1 within));
-  asked = λ p. ap (λ (ps : List Pass). asks_of (slice_index_or ps 1 p)) frames ∙ st.played.shown.asked;
+  asked = λ p. ap (λ (ps : List Pass). pass_asks (slice_index_or ps 1 p)) frames ∙ st.played.shown.asked;
   turns = λ p. ap (λ (ps : List Pass). (slice_index_or ps 1 p).view.turns) frames ∙ st.played.shown.turns;
-  ran = λ p. ap (λ (ps : List Pass). asks_of (slice_index_or ps 0 p)) frames ∙ (sym (told_whole (asks_of parts.frames)) ∙ (st.ran ∙ told_whole (asks_to_run a.frames)));
+  ran = λ p. ap (λ (ps : List Pass). pass_asks (slice_index_or ps 0 p)) frames ∙ (sym (told_whole (pass_asks parts.frames)) ∙ (st.ran ∙ told_whole (asks_to_run a.frames)));
 }
   where
     st : Stands s l.number l.sender l.looper.held.poster.view.seen l.looper.held.journal.acts parts a

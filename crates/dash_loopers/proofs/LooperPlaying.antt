@@ -20,17 +20,17 @@ use Rattle.message_pool.specs.Passes.{Node}
 use Rattle.dash_script.specs.declared.script.Script.{Script}
 use Rattle.looper_run.specs.Holding.{Holding}
 use Rattle.loop_model.specs.Posts.{post_at}
-use Rattle.looper_run.specs.Tests.{Passes, PassesWith, IsLent, IsTake, HasTaken, Unless, Intercepts}
+use Rattle.looper_run.specs.Tests.{Passes, PassesWith, IsLent, IsTake, HasTakenMessage, Unless, Intercepts}
 use Rattle.looper_run.specs.declared.dispatcher.Did.{Did}
 use Rattle.looper_run.specs.declared.dispatcher.Did.TheVariants.{Yes, No, NoMemory}
 use Rattle.loop_model.proofs.Prefixes.{prefix_self}
 use Rattle.run_model.specs.Control.{At}
 use Rattle.run_model.specs.FrameRecords.{FrameAt, nanos_of, FrameAsk}
-use Rattle.run_model.specs.Loopers.{Looper, Sent, delivered, starts_frame}
-use Rattle.dash_hall.specs.Hosts.{asks_of}
+use Rattle.run_model.specs.Loopers.{LooperState, SentCall, after_dispatch, starts_frame}
+use Rattle.dash_hall.specs.Hosts.{pass_asks}
 use Rattle.dash_loopers.specs.declared.player.Parts.{Parts}
 use Rattle.dash_loopers.specs.declared.looper.StageLooper.{StageLooper}
-use Rattle.dash_loopers.specs.Played.{calls_in, calls_of, IsPlayed, Delivers, pulsed, Pulses, pulse_time, Stands, IsTimedBy, HasLooked, IsDueAt, IsPostedBy, GoesOnTo, ComesTo, IsPlaying, HasPlayed}
+use Rattle.dash_loopers.specs.Played.{calls_in, calls_of, IsPlayed, Delivers, looper_pulsed, Pulses, pulse_time, Stands, IsTimedBy, HasLookedAt, IsAskedDueAt, IsPostedBy, GoesOnTo, ComesTo, IsPlaying, HasPlayed}
 use Rattle.dash_loopers.specs.PlayingLaws.{goes_nowhere, comes_on}
 use Rattle.dash_loopers.proofs.LooperStands.{stands_pulse, by_dispatch, sends_dispatch, posts_dispatch, frames_dispatch, stands_dispatch}
 use Rattle.dash_loopers.proofs.PlaySteps.{waits_still}
@@ -39,7 +39,7 @@ use Rattle.run_model.specs.Planned.{frame_handler}
 
 -- ---- calls more, and looks more
 
-goes_one : (q k : ℕ) (looks : List Entry) (now : ℕ) (a b : Looper) (x : Sent) → b.sent ≡ a.sent ++ x ∷ [] → b.posted ≡ a.posted → b.frames ≡ a.frames
+goes_one : (q k : ℕ) (looks : List Entry) (now : ℕ) (a b : LooperState) (x : SentCall) → b.sent ≡ a.sent ++ x ∷ [] → b.posted ≡ a.posted → b.frames ≡ a.frames
     → IsTimedBy q k looks now x.queue x.timing → GoesOnTo q k looks now a b
 goes_one q k looks now a b x sent posted frames timed = record {
   more = x ∷ [];
@@ -50,18 +50,18 @@ goes_one q k looks now a b x sent posted frames timed = record {
   posted_then = All-nil (IsPostedBy k looks);
   ran = [];
   frames = frames ∙ sym (append-nil a.frames);
-  ran_then = All-nil (λ (y : FrameAt). HasLooked k looks y.now);
+  ran_then = All-nil (λ (y : FrameAt). HasLookedAt k looks y.now);
 }
 
 -- a pulse that came is due by now
-goes_pulsed : (k q : ℕ) (looks : List Entry) (now : ℕ) (stamp : Option ℕ) (a : Looper) → pulse_time stamp ≤ now → GoesOnTo q k looks now a (pulsed q stamp a)
+goes_pulsed : (k q : ℕ) (looks : List Entry) (now : ℕ) (stamp : Option ℕ) (a : LooperState) → pulse_time stamp ≤ now → GoesOnTo q k looks now a (looper_pulsed q stamp a)
 goes_pulsed k q looks now None a due = goes_nowhere q k looks now a
-goes_pulsed k q looks now (Some stamp) a due = goes_one q k looks now a (pulsed q (Some stamp) a) _ refl refl refl (due, refl)
+goes_pulsed k q looks now (Some stamp) a due = goes_one q k looks now a (looper_pulsed q (Some stamp) a) _ refl refl refl (due, refl)
 
 -- calls, callbacks and frames at the moment of a look
-goes_looked : (q k : ℕ) (looks : List Entry) (now time : ℕ) (e : Entry) (a b : Looper) → Contains looks e → e.sender ≡ k → e.call ≡ Next time
-    → (more : List Sent) × (b.sent ≡ a.sent ++ more) × AllByRecursion (λ x. x.timing ≡ At time) more
-    → (posts : List FrameAsk) × (b.posted ≡ a.posted ++ posts) × AllByRecursion (IsDueAt time) posts
+goes_looked : (q k : ℕ) (looks : List Entry) (now time : ℕ) (e : Entry) (a b : LooperState) → Contains looks e → e.sender ≡ k → e.call ≡ Next time
+    → (more : List SentCall) × (b.sent ≡ a.sent ++ more) × AllByRecursion (λ x. x.timing ≡ At time) more
+    → (posts : List FrameAsk) × (b.posted ≡ a.posted ++ posts) × AllByRecursion (IsAskedDueAt time) posts
     → (ran : List FrameAt) × (b.frames ≡ a.frames ++ ran) × AllByRecursion (λ x. x.now ≡ time) ran → GoesOnTo q k looks now a b
 goes_looked q k looks now time e a b among sender call m p r = record {
   more = m.0;
@@ -71,11 +71,11 @@ goes_looked q k looks now time e a b among sender call m p r = record {
   posts = p.0;
   posted = p.1;
   posted_then = All_indexed (IsPostedBy k looks) p.0
-      (AllByRecursion-weaker (IsDueAt time) (IsPostedBy k looks) (λ x is. (time, (e, among, sender, call), is)) p.0 p.2);
+      (AllByRecursion-weaker (IsAskedDueAt time) (IsPostedBy k looks) (λ x is. (time, (e, among, sender, call), is)) p.0 p.2);
   ran = r.0;
   frames = r.1;
-  ran_then = All_indexed (λ (x : FrameAt). HasLooked k looks x.now) r.0
-      (AllByRecursion-weaker (λ (x : FrameAt). x.now ≡ time) (λ x. HasLooked k looks x.now) (λ x is. subst (HasLooked k looks) (sym is) (e, among, sender, call)) r.0 r.2);
+  ran_then = All_indexed (λ (x : FrameAt). HasLookedAt k looks x.now) r.0
+      (AllByRecursion-weaker (λ (x : FrameAt). x.now ≡ time) (λ x. HasLookedAt k looks x.now) (λ x is. subst (HasLookedAt k looks) (sym is) (e, among, sender, call)) r.0 r.2);
 }
 
 module _ (s : Script) (q now : ℕ) (began : StageLooper) where
@@ -86,7 +86,7 @@ module _ (s : Script) (q now : ℕ) (began : StageLooper) where
       let here : Pulses s q now (calls_in k es) (calls_in k (es ++ more)) parts parts' acts acts' = subst (λ l. Pulses s q now (calls_in k es) l parts parts' acts acts') (λ i. calls_in (same i) (saw i)) p in
       subst (λ (n : ℕ). IsPlaying s q now began n es' acts' parts') (sym same) (subst (λ (l : List Entry). IsPlaying s q now began k l acts' parts') (sym saw) (λ text a come.
       (let c = meets text a come in
-      comes_on s q now a k began.looper.held.poster.view.seen es more acts acts' parts parts' c (pulsed q here.stamp c.state) (stands_pulse s q k now es more acts acts' parts parts' c.state c.state text here c.stands) (goes_pulsed k q more now here.stamp c.state here.due))))
+      comes_on s q now a k began.looper.held.poster.view.seen es more acts acts' parts parts' c (looper_pulsed q here.stamp c.state) (stands_pulse s q k now es more acts acts' parts parts' c.state c.state text here c.stands) (goes_pulsed k q more now here.stamp c.state here.due))))
 
   pub playing_pulse : (before after : Holding) (parts parts' : Parts) → IsLent before after → Pulses s q now (calls_of before.poster) (calls_of after.poster) parts parts' before.journal.acts after.journal.acts
       → Passes (λ k es acts. IsPlaying s q now began k es acts parts) before → Passes (λ k es acts. IsPlaying s q now began k es acts parts') after
@@ -112,7 +112,7 @@ module _ (s : Script) (q now : ℕ) (began : StageLooper) where
       (frames_dispatch s q k n time time (λ x. x == nanos_of time) m past more e take acts acts' parts parts' here c.state c.state)))))
 
   pub playing_dispatch : (time : ℕ) (node : Node) (route : Route) (before after : Holding) (parts parts' : Parts) → IsLent before after
-      → HasTaken (λ k es acts. IsPlaying s q now began k es acts parts) before node time
+      → HasTakenMessage (λ k es acts. IsPlaying s q now began k es acts parts) before node time
       → Delivers s q time (λ x. x == nanos_of time) (post_of node.item) (calls_of before.poster) (calls_of after.poster) parts parts' before.journal.acts after.journal.acts
       → PassesWith (λ k es acts. IsPlaying s q now began k es acts parts') after node time route
   playing_dispatch time node route before after parts parts' lent t d =
@@ -122,21 +122,21 @@ module _ (s : Script) (q now : ℕ) (began : StageLooper) where
   pub delivers_none : (time : ℕ) (is_moment : ℕ → Bool) (m : PostData) (id : ℕ) (made : List Entry) (parts : Parts) (acts : List Act) → m.callback ≡ Some id → Delivers s q time is_moment m made made parts parts acts acts
   delivers_none time is_moment m id made parts acts callback = record {
     ids = [];
-    ran = record { frame = None; start = 0; started = refl; framed = λ fs begins law. (refl, refl, refl, refl); within = omega arith; grew = prefix_self parts.frames.view.seen; asks = sym (append-nil (asks_of parts.frames)); stamped = λ stamp waits has fs begins. refl; in_time = still_in_time is_moment parts.frames parts.frames (λ stamp waits has. has) (λ c e named. grows_self parts.frames.view.seen) };
+    ran = record { frame = None; start = 0; started = refl; framed = λ fs begins law. (refl, refl, refl, refl); within = omega arith; grew = prefix_self parts.frames.view.seen; asks = sym (append-nil (pass_asks parts.frames)); stamped = λ stamp waits has fs begins. refl; in_time = still_in_time is_moment parts.frames parts.frames (λ stamp waits has. has) (λ c e named. grows_self parts.frames.view.seen) };
     starts = refl;
     awaited = refl;
     waits = waits_still q m parts parts quiet (λ stamp waits has. has) refl;
-    plays = λ text a settled played. (subst (IsPlayed s q made parts) (sym (same a settled)) played, sym (ap (λ (l : List Act). acts ++ l) (ap (λ (b : Looper). b.painted) (nothing a) ∙ settled) ∙ append-nil acts));
+    plays = λ text a settled played. (subst (IsPlayed s q made parts) (sym (same a settled)) played, sym (ap (λ (l : List Act). acts ++ l) (ap (λ (b : LooperState). b.painted) (nothing a) ∙ settled) ∙ append-nil acts));
   }
     where
       quiet : (parts.awaits && starts_frame q m) ≡ false
       quiet = ap (λ (o : Option ℕ). parts.awaits && (not (is_some o) && m.handler == frame_handler q && m.what == 0)) callback ∙ and-false parts.awaits
 
-      nothing : (a : Looper) → delivered s q time [] m a ≡ a
+      nothing : (a : LooperState) → after_dispatch s q time [] m a ≡ a
       nothing a = rw callback refl
 
-      same : (a : Looper) → a.painted ≡ [] → record (delivered s q time [] m a) { painted = [] } ≡ a
-      same a settled = ap (λ (b : Looper). record b { painted = [] }) (nothing a) ∙ (λ i. record a { painted = sym settled i })
+      same : (a : LooperState) → a.painted ≡ [] → record (after_dispatch s q time [] m a) { painted = [] } ≡ a
+      same a settled = ap (λ (b : LooperState). record b { painted = [] }) (nothing a) ∙ (λ i. record a { painted = sym settled i })
 
 -- how a call was told that went well, or found no memory
 pub did_well : {A E : Type 0} (r : Result A E) (d : Did) (P : Type 0) → (d ≡ No → ⊥) → (d ≡ Yes → is_ok r ≡ true) → OnOk r P → Unless d P
@@ -157,16 +157,16 @@ intercepted No P Q never h = absurd (never refl)
 intercepted NoMemory P Q never h = tt
 
 module _ (s : Script) (q now : ℕ) (began : StageLooper) where
-  -- a pulse was delivered, or none came, unless memory was wanting
+  -- a pulse was delivered, or none came, unless memory ran out
   pub pulse_or_none : (d : Did) (before after : Holding) (parts parts' : Parts) → IsLent before after → Unless d (Pulses s q now (calls_of before.poster) (calls_of after.poster) parts parts' before.journal.acts after.journal.acts)
       → Passes (λ k es acts. IsPlaying s q now began k es acts parts) before → Unless d (Passes (λ k es acts. IsPlaying s q now began k es acts parts') after)
   pulse_or_none Yes before after parts parts' lent p meets = playing_pulse s q now began before after parts parts' lent p meets
   pulse_or_none No before after parts parts' lent p meets = playing_pulse s q now began before after parts parts' lent p meets
   pulse_or_none NoMemory before after parts parts' lent p meets = tt
 
-  -- a message was dispatched, unless memory was wanting
+  -- a message was dispatched, unless memory ran out
   pub dispatches_well : {A E : Type 0} (time : ℕ) (node : Node) (route : Route) (m : PostData) (r : Result A E) (d : Did) (before after : Holding) (parts parts' : Parts) → m ≡ post_of node.item → IsLent before after
-      → HasTaken (λ k es acts. IsPlaying s q now began k es acts parts) before node time
+      → HasTakenMessage (λ k es acts. IsPlaying s q now began k es acts parts) before node time
       → OnOk r (Delivers s q time (λ x. x == nanos_of time) m (calls_of before.poster) (calls_of after.poster) parts parts' before.journal.acts after.journal.acts)
       → (d ≡ No → ⊥) → (d ≡ Yes → is_ok r ≡ true)
       → Unless d (PassesWith (λ k es acts. IsPlaying s q now began k es acts parts') after node time route)
@@ -179,7 +179,7 @@ module _ (s : Script) (q now : ℕ) (began : StageLooper) where
 -- ---- who begins, and who does nothing
 
 -- a looper goes on nowhere from where it stands
-comes_nowhere : (s : Script) (q now k : ℕ) (es : List Entry) (acts : List Act) (parts : Parts) (a : Looper) → Stands s q k es acts parts a → ComesTo s q now a k es es acts parts
+comes_nowhere : (s : Script) (q now k : ℕ) (es : List Entry) (acts : List Act) (parts : Parts) (a : LooperState) → Stands s q k es acts parts a → ComesTo s q now a k es es acts parts
 comes_nowhere s q now k es acts parts a stands = record { state = a; stands = stands; looks = []; saw = sym (append-nil es); on = goes_nowhere q k [] now a }
 
 -- one that did nothing has played

@@ -16,7 +16,7 @@ use Rattle.dash_hall.specs.declared.hall.Hall.{Hall}
 use Rattle.dash_hall.specs.Kits.{IsHall, queue_constants}
 use Rattle.dash_loopers.specs.declared.looper.StageLooper.{StageLooper}
 use Rattle.dash_loopers.specs.Loopers.{IsLooper, RunsRound, ComesToWaitAt, is_given_up, round_of, setting_in, DrainsAt}
-use Rattle.dash_loopers.specs.Looped.{AsksPulse, LoopsBy, LoopsOnce, earlier_of}
+use Rattle.dash_loopers.specs.Looped.{LooperAsksPulse, LoopsUpToCap, LoopsToPulse, earlier_of}
 use Rattle.dash_loopers.proofs.LooperPlaces.{queue_is}
 use Rattle.dash_loopers.proofs.LooperKits.{looper_of, ran_on, comes_to_wait}
 use Rattle.dash_loopers.proofs.LooperLooped.{RoundLeaves}
@@ -65,7 +65,7 @@ module _ (s : Script) (hall : Hall) (now : ℕ) (l n after : StageLooper) (q : S
 
 pub loop_here : (shows : ℕ → Bool) (start : ℕ) (cap : Option ℕ) (s : Script) (hall : Hall) (l n after : StageLooper) (q : Shared TableId) (left : Looping) (how : Loop) → hall.lockstep ≡ false → IsHall s hall → IsLooper s hall l
     → slice_get hall.queues.items l.number ≡ Some q → n ≡ record l { parts = None } → after.looper ≡ left → LoopBy shows start cap q.constants.setting n.looper.held left.held how
-    → LoopsBy (in_free_mode shows start) s cap l after how
+    → LoopsUpToCap (in_free_mode shows start) s cap l after how
 loop_here shows start cap s hall l n after q left how mode is_hall is at taken held loops =
     subst (λ (c : Constants TableId). LoopBy shows start cap c.setting l.looper.held after.looper.held how)
     (queue_is s hall l.number (looper_of s hall l is_hall is) l.number q at ∙ ap (λ b. queue_constants b s hall.pool l.number) mode)
@@ -73,8 +73,8 @@ loop_here shows start cap s hall l n after q left how mode is_hall is at taken h
     (subst (λ (z : StageLooper). LoopBy shows start cap q.constants.setting z.looper.held left.held how) taken loops))
 
 -- up to the pulse that it asked for, or to the end
-pub loops_once : (m : Mode) (s : Script) (end pulse cap : Option ℕ) (b k c : StageLooper) (how : Loop) → is_ended b.last ≡ false → is_given_up b.last ≡ false → AsksPulse b k pulse → k.looper ≡ b.looper → k.number ≡ b.number
-    → cap ≡ earlier_of pulse end → LoopsBy m s cap k c how → c.last ≡ round_of how → LoopsOnce m s end b c how
+pub loops_once : (m : Mode) (s : Script) (end pulse cap : Option ℕ) (b k c : StageLooper) (how : Loop) → is_ended b.last ≡ false → is_given_up b.last ≡ false → LooperAsksPulse b k pulse → k.looper ≡ b.looper → k.number ≡ b.number
+    → cap ≡ earlier_of pulse end → LoopsUpToCap m s cap k c how → c.last ≡ round_of how → LoopsToPulse m s end b c how
 loops_once m s end pulse cap b k c how unended going looks held number is loops last = record {
   going = ap₂ (λ x y. x || y) unended going;
   asked = k;

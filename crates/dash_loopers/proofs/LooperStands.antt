@@ -20,7 +20,7 @@ use Rattle.loop_model.specs.declared.journal.Act.TheVariants.{Dispatch, Idle, Ev
 use Rattle.loop_model.specs.declared.base.Base.{Base}
 use Rattle.loop_model.specs.Base.{empty_base}
 use Rattle.loop_model.specs.Answers.{clock}
-use Rattle.loop_model.specs.Legal.{IsTimely}
+use Rattle.loop_model.specs.Legal.{CallFitsTime}
 use Rattle.loop_model.proofs.LegalLaws.{IsLegal-last}
 use Rattle.choreographer.proofs.InTime.{later_quietly, later_then}
 use Rattle.run_model.specs.Loopers.{pulse_stamp}
@@ -35,19 +35,19 @@ use Rattle.looper_run.specs.Tests.{IsTake}
 use Rattle.loop_model.proofs.Prefixes.{prefix_trans, prefix_length}
 use Rattle.loop_model.specs.Posts.{post_at}
 use Rattle.run_model.specs.Control.{At}
-use Rattle.run_model.specs.Planned.{Makes, plain, token_in, AreFor, sender_count}
+use Rattle.run_model.specs.Planned.{Makes, bare_call, token_in, AreFor, sender_count}
 use Rattle.run_model.specs.AskedSoFar.{tokens_in}
-use Rattle.run_model.specs.Loopers.{Looper, Sent, first_looper, starts_frame, delivered, and_takes, dispatched, after_act, MayDispatch, Lead, IsSent}
+use Rattle.run_model.specs.Loopers.{LooperState, SentCall, first_looper, starts_frame, after_dispatch, and_takes, dispatched, after_act, MayDispatch, ActsLead, IsSent}
 use Rattle.run_model.specs.Parts.{and_starts, running, sent_on, is_run_then, is_whole, asks_to_run}
 use Rattle.run_model.specs.FrameRecords.{FrameAt, nanos_of, frame_ids, is_frame_from, has_stamp, place_after, frames_after, are_run_then, are_whole, FrameAsk, Runs, as_told}
-use Rattle.run_model.proofs.RunLaws.{AreFor-snoc, Lead-snoc, ArePaints, Lead-paints}
-use Rattle.run_model.proofs.Growth.{Lead-entries, post_at-grows}
-use Rattle.choreographer.specs.Calls.{latest}
+use Rattle.run_model.proofs.RunLaws.{AreFor-snoc, ActsLead-snoc, ArePaints, ActsLead-paints}
+use Rattle.run_model.proofs.Growth.{ActsLead-entries, post_at-grows}
+use Rattle.choreographer.specs.Calls.{latest_stamp}
 use Rattle.dash_loopers.specs.declared.player.Parts.{Parts}
 use Rattle.dash_hall.specs.Growth.{own}
-use Rattle.dash_hall.specs.Hosts.{asks_of}
+use Rattle.dash_hall.specs.Hosts.{pass_asks}
 use Rattle.dash_loopers.specs.Players.{PlaceWithout}
-use Rattle.dash_loopers.specs.Played.{IsRootOf, calls_in, IsPlayed, moments_of, asks_for, Delivers, pulse_acts, pulsed, HasLatest, IsUpTo, HasRunAll, Pulses, IsDueAt, StandsBy}
+use Rattle.dash_loopers.specs.Played.{IsRootOf, calls_in, IsPlayed, moments_of, asks_for, Delivers, pulse_acts, looper_pulsed, HasLatest, IsUpTo, HasRunAll, Pulses, IsAskedDueAt, StandsBy}
 use Rattle.dash_loopers.specs.Loopers.{IsSoundOn, setting_for}
 use Rattle.dash_loopers.specs.PlayingLaws.{calls_more, sound_front, clock_front, nanos_rise, runs_later, no_pulse}
 use Rattle.dash_loopers.proofs.LooperSteps.{AddsAt, delivers}
@@ -61,27 +61,27 @@ calls_taken k n now es e t =
     calls_more k es (e ∷ []) ∙ ap (λ l. calls_in k es ++ l) (let call = t.call in let reply = t.reply in rw (mine, call, reply) refl)
 
 -- a pulse that came
-vsynced : (s : Script) (q : ℕ) (es : List Entry) (fs : List FrameEntry) (acts : List Act) (a : Looper) (stamp : ℕ) → is_pulse s.period stamp ≡ true → comes_after a.stamp stamp ≡ true → a.awaits ≡ false → a.painted ≡ [] → Lead s q es fs (first_looper s) acts a
-    → Lead s q es fs (first_looper s) (acts ++ Vsync stamp ∷ []) (pulsed q (Some stamp) a)
+vsynced : (s : Script) (q : ℕ) (es : List Entry) (fs : List FrameEntry) (acts : List Act) (a : LooperState) (stamp : ℕ) → is_pulse s.period stamp ≡ true → comes_after a.stamp stamp ≡ true → a.awaits ≡ false → a.painted ≡ [] → ActsLead s q es fs (first_looper s) acts a
+    → ActsLead s q es fs (first_looper s) (acts ++ Vsync stamp ∷ []) (looper_pulsed q (Some stamp) a)
 unfolding after_act
-vsynced s q es fs acts a stamp is_one later over settled lead = Lead-snoc s q es fs None (first_looper s) acts a (Vsync stamp) lead (refl, record { painted = settled; awaited = over; pulse = is_one; later = later })
+vsynced s q es fs acts a stamp is_one later over settled lead = ActsLead-snoc s q es fs None (first_looper s) acts a (Vsync stamp) lead (refl, record { painted = settled; awaited = over; pulse = is_one; later = later })
 
 -- ---- what stays as entries and acts are added that cause nothing
 
 module _ {lockstep : Bool} (s : Script) (q k : ℕ) where
   -- a pulse, or none
-  pub stands_pulse : (now : ℕ) (es more : List Entry) (acts acts' : List Act) (parts parts' : Parts) (did a : Looper) → HasText s
-      → (p : Pulses s q now (calls_in k es) (calls_in k (es ++ more)) parts parts' acts acts') → StandsBy lockstep s q k es acts parts did a → StandsBy lockstep s q k (es ++ more) acts' parts' (pulsed q p.stamp did) (pulsed q p.stamp a)
+  pub stands_pulse : (now : ℕ) (es more : List Entry) (acts acts' : List Act) (parts parts' : Parts) (did a : LooperState) → HasText s
+      → (p : Pulses s q now (calls_in k es) (calls_in k (es ++ more)) parts parts' acts acts') → StandsBy lockstep s q k es acts parts did a → StandsBy lockstep s q k (es ++ more) acts' parts' (looper_pulsed q p.stamp did) (looper_pulsed q p.stamp a)
   stands_pulse now es more acts acts' parts parts' did a text p st = record {
     led = λ fs begins law.
-        subst (λ l. Lead s q (es ++ more) fs (first_looper s) l (pulsed q p.stamp a)) (sym p.told)
-        (by_stamp fs p.stamp p.next.is_pulse (p.next.later a.stamp a.awaits st.latest_is).0 (p.next.later a.stamp a.awaits st.latest_is).1 (Lead-entries s q es fs more (first_looper s) acts a (st.led fs (prefix_trans parts.frames.view.seen parts'.frames.view.seen fs p.grew begins) law)));
-    place = (let at : (pulsed q p.stamp a).place ≡ a.place = placed p.stamp in let le = st.place in let longer = prefix_length parts.frames.view.seen parts'.frames.view.seen p.grew in omega (arith, at, le, longer));
+        subst (λ l. ActsLead s q (es ++ more) fs (first_looper s) l (looper_pulsed q p.stamp a)) (sym p.told)
+        (by_stamp fs p.stamp p.next.is_pulse (p.next.later a.stamp a.awaits st.latest_is).0 (p.next.later a.stamp a.awaits st.latest_is).1 (ActsLead-entries s q es fs more (first_looper s) acts a (st.led fs (prefix_trans parts.frames.view.seen parts'.frames.view.seen fs p.grew begins) law)));
+    place = (let at : (looper_pulsed q p.stamp a).place ≡ a.place = placed p.stamp in let le = st.place in let longer = prefix_length parts.frames.view.seen parts'.frames.view.seen p.grew in omega (arith, at, le, longer));
     moments = λ is fs begins law. ap (are_run_then fs) (ran p.stamp) ∙ st.moments is fs (prefix_trans parts.frames.view.seen parts'.frames.view.seen fs p.grew begins) law;
     whole = λ fs begins law. ap (are_whole (phase_count s.edition) fs) (ran p.stamp) ∙ st.whole fs (prefix_trans parts.frames.view.seen parts'.frames.view.seen fs p.grew begins) law;
     ran = ap (map (as_told lockstep)) p.asks ∙ (st.ran ∙ ap (λ (l : List FrameAt). map (as_told lockstep) (asks_to_run l)) (sym (ran p.stamp)));
     settled = painted p.stamp;
-    latest_is = subst (λ (b : Bool). HasLatest parts'.frames (pulsed q p.stamp a).stamp b) (awaited p.stamp) (subst (λ (n : ℕ). HasLatest parts'.frames n (is_some p.stamp || a.awaits)) (came p.stamp) (p.next.got a.stamp a.awaits st.latest_is));
+    latest_is = subst (λ (b : Bool). HasLatest parts'.frames (looper_pulsed q p.stamp a).stamp b) (awaited p.stamp) (subst (λ (n : ℕ). HasLatest parts'.frames n (is_some p.stamp || a.awaits)) (came p.stamp) (p.next.got a.stamp a.awaits st.latest_is));
     awaits_is = p.next.waits ∙ (ap (λ (b : Bool). is_some p.stamp || b) st.awaits_is ∙ awaited p.stamp);
     in_time = λ is sound.
         let was = runs_later s q es more acts parts.frames a.awaits did.frames (st.in_time is) sound in
@@ -93,16 +93,16 @@ module _ {lockstep : Bool} (s : Script) (q k : ℕ) where
     played = p.plays text did st.played;
   }
     where
-      came : (o : Option ℕ) → latest o a.stamp ≡ (pulsed q o a).stamp
+      came : (o : Option ℕ) → latest_stamp o a.stamp ≡ (looper_pulsed q o a).stamp
       came None = refl
       came (Some stamp) = refl
 
-      awaited : (o : Option ℕ) → (is_some o || a.awaits) ≡ (pulsed q o a).awaits
+      awaited : (o : Option ℕ) → (is_some o || a.awaits) ≡ (looper_pulsed q o a).awaits
       awaited None = refl
       awaited (Some stamp) = refl
 
       counted : (o : Option ℕ) → (is_some o && a.awaits) ≡ false → length (filter_map pulse_stamp acts) ≡ length did.frames + (if a.awaits then 1 else 0)
-          → length (filter_map pulse_stamp (acts ++ pulse_acts o)) ≡ length (pulsed q o did).frames + (if (pulsed q o a).awaits then 1 else 0)
+          → length (filter_map pulse_stamp (acts ++ pulse_acts o)) ≡ length (looper_pulsed q o did).frames + (if (looper_pulsed q o a).awaits then 1 else 0)
       counted None over was = ap (λ (l : List Act). length (filter_map pulse_stamp l)) (append-nil acts) ∙ was
       counted (Some stamp) over was =
           let none = ap (λ (b : Bool). length did.frames + (if b then 1 else 0)) over in
@@ -110,26 +110,26 @@ module _ {lockstep : Bool} (s : Script) (q k : ℕ) where
           let long = length-append (filter_map pulse_stamp acts) (stamp ∷ []) in
           omega (arith, was, none, more_stamps, long)
 
-      placed : (o : Option ℕ) → (pulsed q o a).place ≡ a.place
+      placed : (o : Option ℕ) → (looper_pulsed q o a).place ≡ a.place
       placed None = refl
       placed (Some stamp) = refl
 
-      ran : (o : Option ℕ) → (pulsed q o did).frames ≡ did.frames
+      ran : (o : Option ℕ) → (looper_pulsed q o did).frames ≡ did.frames
       ran None = refl
       ran (Some stamp) = refl
 
-      painted : (o : Option ℕ) → (pulsed q o a).painted ≡ []
+      painted : (o : Option ℕ) → (looper_pulsed q o a).painted ≡ []
       painted None = st.settled
       painted (Some stamp) = st.settled
 
-      by_stamp : (fs : List FrameEntry) (o : Option ℕ) → is_pulse_if_any s.period o ≡ true → comes_after_if_any a.stamp o ≡ true → (is_some o && a.awaits) ≡ false → Lead s q (es ++ more) fs (first_looper s) acts a → Lead s q (es ++ more) fs (first_looper s) (acts ++ pulse_acts o) (pulsed q o a)
-      by_stamp fs None none later over lead = subst (λ l. Lead s q (es ++ more) fs (first_looper s) l a) (sym (append-nil acts)) lead
+      by_stamp : (fs : List FrameEntry) (o : Option ℕ) → is_pulse_if_any s.period o ≡ true → comes_after_if_any a.stamp o ≡ true → (is_some o && a.awaits) ≡ false → ActsLead s q (es ++ more) fs (first_looper s) acts a → ActsLead s q (es ++ more) fs (first_looper s) (acts ++ pulse_acts o) (looper_pulsed q o a)
+      by_stamp fs None none later over lead = subst (λ l. ActsLead s q (es ++ more) fs (first_looper s) l a) (sym (append-nil acts)) lead
       by_stamp fs (Some stamp) is_one later over lead = vsynced s q (es ++ more) fs acts a stamp is_one later over st.settled lead
 
 -- ---- a dispatch
 
 -- the state once the message is taken, before what it causes; a frame that it begins is to start at the second moment
-abbrev pub taken : ℕ → ℕ → ℕ → ℕ → Option ℕ → PostData → Looper → Looper
+abbrev pub taken : ℕ → ℕ → ℕ → ℕ → Option ℕ → PostData → LooperState → LooperState
 taken q n now u frame m a = and_takes q n now (and_starts q m (running frame u a))
 
 -- the frames so far pass a test, and so does this one, or there is none
@@ -188,22 +188,22 @@ sooner fs first later (Some place) le h = and_from (nat_le first place) _ (no_la
     no_later a b p le h = grind (arith, nat_tests)
 
 -- the acts lead on by a dispatch, with the paints that it makes before it
-leads_dispatch : (s : Script) (q : ℕ) (es : List Entry) (fs : List FrameEntry) (acts ps : List Act) (a : Looper) (ids : List ℕ) (frame : Option ℕ) (n now : ℕ) (route : Route) (m : PostData)
-    → a.painted ≡ [] → Lead s q es fs (first_looper s) acts a → post_at es n ≡ Some m → (not (is_some frame) || starts_frame q m) ≡ true → (not (is_some frame) || a.awaits) ≡ true → is_frame_from fs a.place frame ≡ true → has_stamp fs frame a.stamp ≡ true → frame_ids fs frame ≡ ids
-    → ArePaints ps → (delivered s q now ids m (taken q n now now frame m a)).painted ≡ ps
-    → Lead s q es fs (first_looper s) ((acts ++ ps) ++ Dispatch n now route ∷ []) (record (delivered s q now ids m (taken q n now now frame m a)) { painted = [] })
+leads_dispatch : (s : Script) (q : ℕ) (es : List Entry) (fs : List FrameEntry) (acts ps : List Act) (a : LooperState) (ids : List ℕ) (frame : Option ℕ) (n now : ℕ) (route : Route) (m : PostData)
+    → a.painted ≡ [] → ActsLead s q es fs (first_looper s) acts a → post_at es n ≡ Some m → (not (is_some frame) || starts_frame q m) ≡ true → (not (is_some frame) || a.awaits) ≡ true → is_frame_from fs a.place frame ≡ true → has_stamp fs frame a.stamp ≡ true → frame_ids fs frame ≡ ids
+    → ArePaints ps → (after_dispatch s q now ids m (taken q n now now frame m a)).painted ≡ ps
+    → ActsLead s q es fs (first_looper s) ((acts ++ ps) ++ Dispatch n now route ∷ []) (record (after_dispatch s q now ids m (taken q n now now frame m a)) { painted = [] })
 unfolding after_act
 leads_dispatch s q es fs acts ps a ids frame n now route m settled lead post starts awaited from stamped are paints painted =
-    subst (λ b. Lead s q es fs (first_looper s) ((acts ++ ps) ++ Dispatch n now route ∷ []) b) state (Lead-snoc s q es fs frame (first_looper s) (acts ++ ps) (record a { painted = ps }) (Dispatch n now route) told may)
+    subst (λ b. ActsLead s q es fs (first_looper s) ((acts ++ ps) ++ Dispatch n now route ∷ []) b) state (ActsLead-snoc s q es fs frame (first_looper s) (acts ++ ps) (record a { painted = ps }) (Dispatch n now route) told may)
   where
-    told : Lead s q es fs (first_looper s) (acts ++ ps) (record a { painted = ps })
-    told = subst (λ l. Lead s q es fs (first_looper s) (acts ++ ps) (record a { painted = l ++ ps })) settled (Lead-paints s q es fs (first_looper s) acts a ps paints lead)
+    told : ActsLead s q es fs (first_looper s) (acts ++ ps) (record a { painted = ps })
+    told = subst (λ l. ActsLead s q es fs (first_looper s) (acts ++ ps) (record a { painted = l ++ ps })) settled (ActsLead-paints s q es fs (first_looper s) acts a ps paints lead)
 
-    causes : dispatched s q fs frame n now (record a { painted = ps }) (post_at es n) ≡ delivered s q now ids m (taken q n now now frame m a)
-    causes = ap (λ o. dispatched s q fs frame n now (record a { painted = ps }) o) post ∙ ap (λ l. delivered s q now l m (taken q n now now frame m a)) are
+    causes : dispatched s q fs frame n now (record a { painted = ps }) (post_at es n) ≡ after_dispatch s q now ids m (taken q n now now frame m a)
+    causes = ap (λ o. dispatched s q fs frame n now (record a { painted = ps }) o) post ∙ ap (λ l. after_dispatch s q now l m (taken q n now now frame m a)) are
 
-    state : record (dispatched s q fs frame n now (record a { painted = ps }) (post_at es n)) { painted = [] } ≡ record (delivered s q now ids m (taken q n now now frame m a)) { painted = [] }
-    state = ap (λ (b : Looper). record b { painted = [] }) causes
+    state : record (dispatched s q fs frame n now (record a { painted = ps }) (post_at es n)) { painted = [] } ≡ record (after_dispatch s q now ids m (taken q n now now frame m a)) { painted = [] }
+    state = ap (λ (b : LooperState). record b { painted = [] }) causes
 
     may : MayDispatch s q es fs frame (record a { painted = ps }) n now
     may = record {
@@ -212,10 +212,10 @@ leads_dispatch s q es fs acts ps a ids frame n now route m settled lead post sta
       awaited = awaited;
       place = from;
       stamped = stamped;
-      painted = ap (λ (b : Looper). b.painted) causes ∙ painted;
+      painted = ap (λ (b : LooperState). b.painted) causes ∙ painted;
     }
 
-module _ (s : Script) (q k n now u : ℕ) (es : List Entry) (e : Entry) (take : IsTake k now n e) (m : PostData) (parts : Parts) (a : Looper) (settled : a.painted ≡ []) where
+module _ (s : Script) (q k n now u : ℕ) (es : List Entry) (e : Entry) (take : IsTake k now n e) (m : PostData) (parts : Parts) (a : LooperState) (settled : a.painted ≡ []) where
   -- the look that took the message is made
   played_taken : (frame : Option ℕ) → IsPlayed s q (calls_in k es) parts a → IsPlayed s q (calls_in k (es ++ e ∷ [])) parts (taken q n now u frame m a)
   played_taken frame p = subst (λ l. IsPlayed s q l parts (taken q n now u frame m a)) (sym (calls_taken k n now es e take)) (record {
@@ -238,7 +238,7 @@ module _ (s : Script) (q k n now u : ℕ) (es : List Entry) (e : Entry) (take : 
     counts = p.counts;
   })
     where
-      look : Sent
+      look : SentCall
       look = record { queue = q; ask = Makes (Next now); reply = Some (Dispatched n); timing = At now }
 
       there : sent_on q (a.sent ++ look ∷ []) ≡ sent_on q a.sent ++ look ∷ []
@@ -248,31 +248,31 @@ module _ (s : Script) (q k n now u : ℕ) (es : List Entry) (e : Entry) (take : 
       not_sent place j at = sent_else place a.sent look (without_self q place j at)
 
       is_look : IsSent (tokens_in (calls_in k es)) look e
-      is_look = record { call = ap plain take.call; reply = take.reply }
+      is_look = record { call = ap bare_call take.call; reply = take.reply }
 
-module _ (s : Script) (q k n now u : ℕ) (is_moment : ℕ → Bool) (m : PostData) (es more : List Entry) (e : Entry) (take : IsTake k now n e) (acts acts' : List Act) (parts parts' : Parts) (d : Delivers s q u is_moment m (calls_in k (es ++ e ∷ [])) (calls_in k ((es ++ e ∷ []) ++ more)) parts parts' acts acts') (did a : Looper) where
+module _ (s : Script) (q k n now u : ℕ) (is_moment : ℕ → Bool) (m : PostData) (es more : List Entry) (e : Entry) (take : IsTake k now n e) (acts acts' : List Act) (parts parts' : Parts) (d : Delivers s q u is_moment m (calls_in k (es ++ e ∷ [])) (calls_in k ((es ++ e ∷ []) ++ more)) parts parts' acts acts') (did a : LooperState) where
   -- what the dispatch leads to by its own moment, and what was done at the moment that was read
-  abbrev pub by_dispatch : Looper
-  by_dispatch = record (delivered s q now d.ids m (taken q n now now d.ran.frame m a)) { painted = [] }
+  abbrev pub by_dispatch : LooperState
+  by_dispatch = record (after_dispatch s q now d.ids m (taken q n now now d.ran.frame m a)) { painted = [] }
 
-  abbrev pub by_reading : Looper
-  by_reading = record (delivered s q u d.ids m (taken q n now u d.ran.frame m did)) { painted = [] }
+  abbrev pub by_reading : LooperState
+  by_reading = record (after_dispatch s q u d.ids m (taken q n now u d.ran.frame m did)) { painted = [] }
 
-  adds : AddsAt now (taken q n now now d.ran.frame m a) (delivered s q now d.ids m (taken q n now now d.ran.frame m a))
+  adds : AddsAt now (taken q n now now d.ran.frame m a) (after_dispatch s q now d.ids m (taken q n now now d.ran.frame m a))
   adds = delivers s q now d.ids m (taken q n now now d.ran.frame m a)
 
-  adds_read : AddsAt u (taken q n now u d.ran.frame m did) (delivered s q u d.ids m (taken q n now u d.ran.frame m did))
+  adds_read : AddsAt u (taken q n now u d.ran.frame m did) (after_dispatch s q u d.ids m (taken q n now u d.ran.frame m did))
   adds_read = delivers s q u d.ids m (taken q n now u d.ran.frame m did)
 
   -- its calls come at its moment
-  pub sends_dispatch : (more : List Sent) × (by_dispatch.sent ≡ a.sent ++ more) × AllByRecursion (λ x. x.timing ≡ At now) more
+  pub sends_dispatch : (more : List SentCall) × (by_dispatch.sent ≡ a.sent ++ more) × AllByRecursion (λ x. x.timing ≡ At now) more
   sends_dispatch = (look ∷ adds.more, adds.sent ∙ append_assoc a.sent (look ∷ []) adds.more, (refl, adds.timed))
     where
-      look : Sent
+      look : SentCall
       look = record { queue = q; ask = Makes (Next now); reply = Some (Dispatched n); timing = At now }
 
   -- so are the callbacks that it posts due then, and a frame that it runs is one of that moment
-  pub posts_dispatch : (posts : List FrameAsk) × (by_dispatch.posted ≡ a.posted ++ posts) × AllByRecursion (IsDueAt now) posts
+  pub posts_dispatch : (posts : List FrameAsk) × (by_dispatch.posted ≡ a.posted ++ posts) × AllByRecursion (IsAskedDueAt now) posts
   posts_dispatch = (adds.posts, adds.posted, adds.due_then)
 
   pub frames_dispatch : (ran : List FrameAt) × (by_dispatch.frames ≡ a.frames ++ ran) × AllByRecursion (λ x. x.now ≡ now) ran
@@ -282,14 +282,14 @@ module _ (s : Script) (q k n now u : ℕ) (is_moment : ℕ → Bool) (m : PostDa
       by_frame None is = ([], is ∙ sym (append-nil a.frames), tt)
       by_frame (Some place) is = (record { place = place; now = now } ∷ [], is, (refl, tt))
 
-  pub stands_dispatch : {lockstep : Bool} (route : Route) → (lockstep ≡ true → (is_moment ≡ (λ n. n == nanos_of u)) × (u ≡ now)) → HasText s → post_at es n ≡ Some m → did.painted ≡ [] → (delivered s q u d.ids m (taken q n now u d.ran.frame m did)).painted ≡ (delivered s q now d.ids m (taken q n now now d.ran.frame m a)).painted
+  pub stands_dispatch : {lockstep : Bool} (route : Route) → (lockstep ≡ true → (is_moment ≡ (λ n. n == nanos_of u)) × (u ≡ now)) → HasText s → post_at es n ≡ Some m → did.painted ≡ [] → (after_dispatch s q u d.ids m (taken q n now u d.ran.frame m did)).painted ≡ (after_dispatch s q now d.ids m (taken q n now now d.ran.frame m a)).painted
       → StandsBy lockstep s q k es acts parts did a → StandsBy lockstep s q k ((es ++ e ∷ []) ++ more) (acts' ++ Dispatch n now route ∷ []) parts' by_reading by_dispatch
   stands_dispatch {lockstep} route at text post still alike st = record {
     led = λ fs begins law.
         let framed = d.ran.framed fs begins law in
-        subst (λ l. Lead s q ((es ++ e ∷ []) ++ more) fs (first_looper s) (l ++ Dispatch n now route ∷ []) by_dispatch) (sym (done.1 ∙ ap (λ (l : List Act). acts ++ l) alike))
+        subst (λ l. ActsLead s q ((es ++ e ∷ []) ++ more) fs (first_looper s) (l ++ Dispatch n now route ∷ []) by_dispatch) (sym (done.1 ∙ ap (λ (l : List Act). acts ++ l) alike))
         (leads_dispatch s q ((es ++ e ∷ []) ++ more) fs acts _ a d.ids d.ran.frame n now route m st.settled
-        (Lead-entries s q (es ++ e ∷ []) fs more (first_looper s) acts a (Lead-entries s q es fs (e ∷ []) (first_looper s) acts a (st.led fs (prefix_trans parts.frames.view.seen parts'.frames.view.seen fs d.ran.grew begins) law)))
+        (ActsLead-entries s q (es ++ e ∷ []) fs more (first_looper s) acts a (ActsLead-entries s q es fs (e ∷ []) (first_looper s) acts a (st.led fs (prefix_trans parts.frames.view.seen parts'.frames.view.seen fs d.ran.grew begins) law)))
         posts d.starts (ap (λ (b : Bool). not (is_some d.ran.frame) || b) (sym st.awaits_is) ∙ d.awaited) (sooner fs a.place (length parts.frames.view.seen) d.ran.frame st.place framed.0) (d.ran.stamped a.stamp a.awaits st.latest_is fs begins) framed.1 (adds.paints tt) refl);
     place = (let at = adds.place in let le = st.place in let longer = prefix_length parts.frames.view.seen parts'.frames.view.seen d.ran.grew in placed d.ran.frame by_dispatch.place at le longer d.ran.within);
     moments = λ is fs begins law.
@@ -301,7 +301,7 @@ module _ (s : Script) (q k n now u : ℕ) (is_moment : ℕ → Bool) (m : PostDa
         ∙ one_more (is_whole (phase_count s.edition) fs) did.frames d.ran.frame u (st.whole fs (prefix_trans parts.frames.view.seen parts'.frames.view.seen fs d.ran.grew begins) law)
         (λ place. run_whole (phase_count s.edition) fs u place d.ran.frame (d.ran.framed fs begins law).3);
     ran = ap (map (as_told lockstep)) d.ran.asks
-        ∙ (map-append (as_told lockstep) (asks_of parts.frames) (asks_for d.ran.frame d.ran.start)
+        ∙ (map-append (as_told lockstep) (pass_asks parts.frames) (asks_for d.ran.frame d.ran.start)
         ∙ (ap (λ (l : List FrameAsk). l ++ map (as_told lockstep) (asks_for d.ran.frame d.ran.start)) st.ran
         ∙ (sym (map-append (as_told lockstep) (asks_to_run did.frames) (asks_for d.ran.frame d.ran.start))
         ∙ (ran_told lockstep is_moment u d.ran.start did.frames d.ran.frame (λ is. (at is).0) d.ran.started
@@ -313,7 +313,7 @@ module _ (s : Script) (q k n now u : ℕ) (is_moment : ℕ → Bool) (m : PostDa
     played = done.0;
   }
     where
-      done : IsPlayed s q (calls_in k ((es ++ e ∷ []) ++ more)) parts' by_reading × (acts' ≡ acts ++ (delivered s q u d.ids m (taken q n now u d.ran.frame m did)).painted)
+      done : IsPlayed s q (calls_in k ((es ++ e ∷ []) ++ more)) parts' by_reading × (acts' ≡ acts ++ (after_dispatch s q u d.ids m (taken q n now u d.ran.frame m did)).painted)
       done = d.plays text (taken q n now u d.ran.frame m did) refl (played_taken s q k n now u es e take m parts did still d.ran.frame st.played)
 
       awaited : parts'.awaits ≡ by_dispatch.awaits
@@ -328,7 +328,7 @@ module _ (s : Script) (q k n now u : ℕ) (is_moment : ℕ → Bool) (m : PostDa
           let b : Base = empty_base (sender_count s) in
           let once : IsSoundOn s q (es ++ e ∷ []) = sound_front s q (es ++ e ∷ []) more sound in
           let was = st.in_time is (sound_front s q es (e ∷ []) once) in
-          let timed : now ≡ clock b es = subst (IsTimely true (clock b es)) take.call (IsLegal-last (setting_for s q) b es e once.legal).timely in
+          let timed : now ≡ clock b es = subst (CallFitsTime true (clock b es)) take.call (IsLegal-last (setting_for s q) b es e once.legal).timely in
           let at_once : u ≡ clock b es = (at is).1 ∙ timed in
           let here = d.ran.in_time (nanos_of u) a.stamp a.awaits (λ m passes. eqb-true m (nanos_of u) (subst (λ (f : ℕ → Bool). f m ≡ true) (at is).0 passes)) st.latest_is
           (subst (λ (t : ℕ). IsUpTo (nanos_of t) parts.frames) (sym at_once) was.up_to) in

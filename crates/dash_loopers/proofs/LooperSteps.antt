@@ -13,20 +13,20 @@ use Rattle.run_model.specs.Planned.{gauge_line, gauge_looper, frame_handler, ani
 use Rattle.loop_model.specs.declared.call.Call.TheVariants.{Barrier}
 use Rattle.run_model.specs.FrameRecords.{FrameAsk, Posts}
 use Rattle.run_model.specs.Control.{At}
-use Rattle.run_model.specs.Loopers.{Looper, Gauge, Sent, with_gauge, and_sends, and_posts_frame, traversal_requested, target_set, object_set, moved}
-use Rattle.run_model.specs.Loopers.{gauge_moved, paints, traversal_ran, callback_ran, fires, reaction, reacted, delivered, and_takes}
+use Rattle.run_model.specs.Loopers.{LooperState, GaugeState, SentCall, with_gauge, and_sends, and_posts_frame, traversal_requested, target_set, object_set, stepped_towards}
+use Rattle.run_model.specs.Loopers.{gauge_moved, paints, traversal_ran, callback_ran, fires, reaction, reacted, after_dispatch, and_takes}
 use Rattle.run_model.specs.Parts.{animation_ran}
 use Rattle.run_model.proofs.RunLaws.{ArePaints}
-use Rattle.dash_loopers.specs.Played.{IsDueAt}
+use Rattle.dash_loopers.specs.Played.{IsAskedDueAt}
 
 -- the second state has calls more, all at this moment, callbacks that are due then, and paints more at most
-pub record AddsAt (now : ℕ) (a b : Looper) : Type 0 where
-  pub more : List Sent
+pub record AddsAt (now : ℕ) (a b : LooperState) : Type 0 where
+  pub more : List SentCall
   pub sent : b.sent ≡ a.sent ++ more
   pub timed : AllByRecursion (λ x. x.timing ≡ At now) more
   pub posts : List FrameAsk
   pub posted : b.posted ≡ a.posted ++ posts
-  pub due_then : AllByRecursion (IsDueAt now) posts
+  pub due_then : AllByRecursion (IsAskedDueAt now) posts
   pub place : b.place ≡ a.place
   pub frames : b.frames ≡ a.frames
   pub stamp : b.stamp ≡ a.stamp
@@ -34,7 +34,7 @@ pub record AddsAt (now : ℕ) (a b : Looper) : Type 0 where
   pub paints : ArePaints a.painted → ArePaints b.painted
 
 -- what is alike in calls, callbacks, place, frames and paints
-adds_none : (now : ℕ) (a b : Looper) → b.sent ≡ a.sent → b.posted ≡ a.posted → b.place ≡ a.place → b.frames ≡ a.frames → b.stamp ≡ a.stamp → b.awaits ≡ a.awaits → (ArePaints a.painted → ArePaints b.painted) → AddsAt now a b
+adds_none : (now : ℕ) (a b : LooperState) → b.sent ≡ a.sent → b.posted ≡ a.posted → b.place ≡ a.place → b.frames ≡ a.frames → b.stamp ≡ a.stamp → b.awaits ≡ a.awaits → (ArePaints a.painted → ArePaints b.painted) → AddsAt now a b
 adds_none now a b sent posted place frames stamp awaits paints = record {
   more = [];
   sent = sent ∙ sym (append-nil a.sent);
@@ -49,7 +49,7 @@ adds_none now a b sent posted place frames stamp awaits paints = record {
   paints = paints;
 }
 
-adds_one : (now : ℕ) (a b : Looper) (x : Sent) → b.sent ≡ a.sent ++ x ∷ [] → x.timing ≡ At now → b.posted ≡ a.posted → b.place ≡ a.place → b.frames ≡ a.frames → b.stamp ≡ a.stamp → b.awaits ≡ a.awaits → (ArePaints a.painted → ArePaints b.painted) → AddsAt now a b
+adds_one : (now : ℕ) (a b : LooperState) (x : SentCall) → b.sent ≡ a.sent ++ x ∷ [] → x.timing ≡ At now → b.posted ≡ a.posted → b.place ≡ a.place → b.frames ≡ a.frames → b.stamp ≡ a.stamp → b.awaits ≡ a.awaits → (ArePaints a.painted → ArePaints b.painted) → AddsAt now a b
 adds_one now a b x sent timed posted place frames stamp awaits paints = record {
   more = x ∷ [];
   sent = sent;
@@ -64,7 +64,7 @@ adds_one now a b x sent timed posted place frames stamp awaits paints = record {
   paints = paints;
 }
 
-adds_post : (now phase id : ℕ) (a : Looper) → AddsAt now a (and_posts_frame now phase id a)
+adds_post : (now phase id : ℕ) (a : LooperState) → AddsAt now a (and_posts_frame now phase id a)
 adds_post now phase id a = record {
   more = [];
   sent = sym (append-nil a.sent);
@@ -79,14 +79,14 @@ adds_post now phase id a = record {
   paints = λ p. p;
 }
 
-pub adds_then : (now : ℕ) (a b c : Looper) → AddsAt now a b → AddsAt now b c → AddsAt now a c
+pub adds_then : (now : ℕ) (a b c : LooperState) → AddsAt now a b → AddsAt now b c → AddsAt now a c
 adds_then now a b c f g = record {
   more = f.more ++ g.more;
   sent = g.sent ∙ (ap (λ l. l ++ g.more) f.sent ∙ append_assoc a.sent f.more g.more);
   timed = AllByRecursion-append (λ x. x.timing ≡ At now) f.more g.more f.timed g.timed;
   posts = f.posts ++ g.posts;
   posted = g.posted ∙ (ap (λ l. l ++ g.posts) f.posted ∙ append_assoc a.posted f.posts g.posts);
-  due_then = AllByRecursion-append (IsDueAt now) f.posts g.posts f.due_then g.due_then;
+  due_then = AllByRecursion-append (IsAskedDueAt now) f.posts g.posts f.due_then g.due_then;
   place = g.place ∙ f.place;
   frames = g.frames ∙ f.frames;
   stamp = g.stamp ∙ f.stamp;
@@ -94,44 +94,44 @@ adds_then now a b c f g = record {
   paints = λ p. g.paints (f.paints p);
 }
 
-adds_self : (now : ℕ) (a : Looper) → AddsAt now a a
+adds_self : (now : ℕ) (a : LooperState) → AddsAt now a a
 adds_self now a = adds_none now a a refl refl refl refl refl refl (λ p. p)
 
-by_test : (now : ℕ) (a x y : Looper) (t : Bool) → AddsAt now a x → AddsAt now a y → AddsAt now a (if t then x else y)
+by_test : (now : ℕ) (a x y : LooperState) (t : Bool) → AddsAt now a x → AddsAt now a y → AddsAt now a (if t then x else y)
 by_test now a x y true f g = f
 by_test now a x y false f g = g
 
-by_option : {X : Type 0} (now : ℕ) (a d : Looper) (f : X → Looper) (o : Option X) → ((x : X) → AddsAt now a (f x)) → AddsAt now a d → AddsAt now a (option_map_or f o d)
+by_option : {X : Type 0} (now : ℕ) (a d : LooperState) (f : X → LooperState) (o : Option X) → ((x : X) → AddsAt now a (f x)) → AddsAt now a d → AddsAt now a (option_map_or f o d)
 by_option now a d f None h g = g
 by_option now a d f (Some x) h g = h x
 
 module _ (s : Script) (q now : ℕ) where
-  requests : (a : Looper) → AddsAt now a (traversal_requested s q now a)
+  requests : (a : LooperState) → AddsAt now a (traversal_requested s q now a)
   requests a =
-      let sent : Looper = and_sends q now (Makes (Barrier 0)) (record a { barrier = Some a.barriers; barriers = a.barriers + 1 }) in
+      let sent : LooperState = and_sends q now (Makes (Barrier 0)) (record a { barrier = Some a.barriers; barriers = a.barriers + 1 }) in
       by_test now a a _ (is_some a.barrier) (adds_self now a) (adds_then now a sent _ (adds_one now a sent _ refl refl refl refl refl refl refl (λ p. p)) (adds_post now (traversal_phase s) traversal_id sent))
 
-  sets : (g target : ℕ) (x : Gauge) (a : Looper) → AddsAt now a (target_set s q now g target x a)
+  sets : (g target : ℕ) (x : GaugeState) (a : LooperState) → AddsAt now a (target_set s q now g target x a)
   sets g target x a =
-      let changed : Looper = with_gauge g (record { value = x.value; target = target; animating = true }) a in
-      let animating : Looper = and_posts_frame now animation_phase (animation_id g) changed in
+      let changed : LooperState = with_gauge g (record { value = x.value; target = target; animating = true }) a in
+      let animating : LooperState = and_posts_frame now animation_phase (animation_id g) changed in
       by_test now a _ _ (x.animating || x.value == target) (adds_none now a _ refl refl refl refl refl refl (λ p. p))
       (adds_then now a changed _ (adds_none now a changed refl refl refl refl refl refl (λ p. p)) (adds_then now changed animating _ (adds_post now animation_phase (animation_id g) changed) (requests animating)))
 
-  sets_object : (g target : ℕ) (a : Looper) → AddsAt now a (object_set s q now g target a)
+  sets_object : (g target : ℕ) (a : LooperState) → AddsAt now a (object_set s q now g target a)
   sets_object g target a =
       by_test now a _ a (gauge_looper s g == q) (by_option now a a (λ x. target_set s q now g target x a) (slice_get a.gauges g) (λ x. sets g target x a) (adds_self now a)) (adds_self now a)
 
-  moves : (g : ℕ) (x : Gauge) (a : Looper) → AddsAt now a (gauge_moved s q now g x a)
+  moves : (g : ℕ) (x : GaugeState) (a : LooperState) → AddsAt now a (gauge_moved s q now g x a)
   moves g x a =
-      let value : ℕ = moved (gauge_line s g).step x.target x.value in
-      let there : Looper = with_gauge g (record { value = value; target = x.target; animating = false }) a in
-      let nearer : Looper = with_gauge g (record x { value = value }) a in
+      let value : ℕ = stepped_towards (gauge_line s g).step x.target x.value in
+      let there : LooperState = with_gauge g (record { value = value; target = x.target; animating = false }) a in
+      let nearer : LooperState = with_gauge g (record x { value = value }) a in
       by_test now a _ _ (value == x.target)
       (adds_then now a there _ (adds_none now a there refl refl refl refl refl refl (λ p. p)) (requests there))
       (adds_then now a (traversal_requested s q now nearer) _ (adds_then now a nearer _ (adds_none now a nearer refl refl refl refl refl refl (λ p. p)) (requests nearer)) (adds_post now animation_phase (animation_id g) (traversal_requested s q now nearer)))
 
-  animates : (g : ℕ) (x : Gauge) (a : Looper) → AddsAt now a (animation_ran s q now g x a)
+  animates : (g : ℕ) (x : GaugeState) (a : LooperState) → AddsAt now a (animation_ran s q now g x a)
   animates g x a = by_test now a _ a x.animating (moves g x a) (adds_self now a)
 
   -- what a traversal paints is paints
@@ -159,34 +159,34 @@ module _ (s : Script) (q now : ℕ) where
   one_paint g v true = tt
   one_paint g v false = tt
 
-  paints_are : (gauges : List Gauge) → ArePaints (paints s q gauges)
+  paints_are : (gauges : List GaugeState) → ArePaints (paints s q gauges)
   paints_are gauges = painted_all _ (λ z. one_paint z.0 z.1.value (gauge_looper s z.0 == q)) (enumerate_from 0 gauges)
 
-  traverses : (a : Looper) → AddsAt now a (traversal_ran s q now a)
+  traverses : (a : LooperState) → AddsAt now a (traversal_ran s q now a)
   traverses a = by_option now a a _ a.barrier (λ k. adds_one now a _ _ refl refl refl refl refl refl refl (λ p. paints_more a.painted (paints s q a.gauges) p (paints_are a.gauges))) (adds_self now a)
 
-  runs : (a : Looper) (id : ℕ) → AddsAt now a (callback_ran s q now a id)
+  runs : (a : LooperState) (id : ℕ) → AddsAt now a (callback_ran s q now a id)
   runs a id =
       by_test now a _ _ (id == traversal_id) (traverses a)
       (by_test now a _ a (nat_le 1000000 id) (by_option now a a (λ x. animation_ran s q now (id - 1000000) x a) (slice_get a.gauges (id - 1000000)) (λ x. animates (id - 1000000) x a) (adds_self now a)) (adds_self now a))
 
-  runs_all : (a : Looper) (ids : List ℕ) → AddsAt now a (fold (callback_ran s q now) a ids)
+  runs_all : (a : LooperState) (ids : List ℕ) → AddsAt now a (fold (callback_ran s q now) a ids)
   runs_all a [] = adds_self now a
   runs_all a (id ∷ ids) = adds_then now a (callback_ran s q now a id) _ (runs a id) (runs_all (callback_ran s q now a id) ids)
 
-  timed_one : (o : Option Sent) (xs : List Sent) → IfSome o (λ x. x.timing ≡ At now) → AllByRecursion (λ x. x.timing ≡ At now) xs → AllByRecursion (λ x. x.timing ≡ At now) (cons_option o xs)
+  timed_one : (o : Option SentCall) (xs : List SentCall) → IfSome o (λ x. x.timing ≡ At now) → AllByRecursion (λ x. x.timing ≡ At now) xs → AllByRecursion (λ x. x.timing ≡ At now) (cons_option o xs)
   timed_one None xs h rest = rest
   timed_one (Some x) xs h rest = (h, rest)
 
-  timed_all : {Z : Type 0} (f : Z → Option Sent) → ((z : Z) → IfSome (f z) (λ x. x.timing ≡ At now)) → (zs : List Z) → AllByRecursion (λ x. x.timing ≡ At now) (filter_map f zs)
+  timed_all : {Z : Type 0} (f : Z → Option SentCall) → ((z : Z) → IfSome (f z) (λ x. x.timing ≡ At now)) → (zs : List Z) → AllByRecursion (λ x. x.timing ≡ At now) (filter_map f zs)
   timed_all f h [] = tt
   timed_all f h (z ∷ zs) = timed_one (f z) (filter_map f zs) (h z) (timed_all f h zs)
 
-  timed_if : (x : Sent) (t : Bool) → x.timing ≡ At now → IfSome (if t then Some x else None) (λ y. y.timing ≡ At now)
+  timed_if : (x : SentCall) (t : Bool) → x.timing ≡ At now → IfSome (if t then Some x else None) (λ y. y.timing ≡ At now)
   timed_if x true h = h
   timed_if x false h = tt
 
-  reacts : (m : PostData) (a : Looper) → AddsAt now a (reacted s now m a)
+  reacts : (m : PostData) (a : LooperState) → AddsAt now a (reacted s now m a)
   reacts m a = record {
     more = filter_map _ (zip s.rules a.fired);
     sent = refl;
@@ -201,17 +201,17 @@ module _ (s : Script) (q now : ℕ) where
     paints = λ p. p;
   }
 
-  object_or_rules : (m : PostData) (a : Looper) → AddsAt now a (option_map_or (λ g. object_set s q now g m.arg a) m.obj (reacted s now m a))
+  object_or_rules : (m : PostData) (a : LooperState) → AddsAt now a (option_map_or (λ g. object_set s q now g m.arg a) m.obj (reacted s now m a))
   object_or_rules m a = by_option now a (reacted s now m a) (λ g. object_set s q now g m.arg a) m.obj (λ g. sets_object g m.arg a) (reacts m a)
 
-  frame_run : (ids : List ℕ) (m : PostData) (a : Looper) → AddsAt now a (if m.what == 0 then fold (callback_ran s q now) a ids else a)
+  frame_run : (ids : List ℕ) (m : PostData) (a : LooperState) → AddsAt now a (if m.what == 0 then fold (callback_ran s q now) a ids else a)
   frame_run ids m a = by_test now a _ a (m.what == 0) (runs_all a ids) (adds_self now a)
 
   -- what a message causes
-  pub delivers : (ids : List ℕ) (m : PostData) (a : Looper) → AddsAt now a (delivered s q now ids m a)
+  pub delivers : (ids : List ℕ) (m : PostData) (a : LooperState) → AddsAt now a (after_dispatch s q now ids m a)
   delivers ids m a =
       by_test now a a _ (is_some m.callback) (adds_self now a) (by_test now a _ _ (m.handler == frame_handler q) (frame_run ids m a) (object_or_rules m a))
 
   -- the look that takes a message
-  pub takes : (n : ℕ) (a : Looper) → AddsAt now a (and_takes q n now a)
+  pub takes : (n : ℕ) (a : LooperState) → AddsAt now a (and_takes q n now a)
   takes n a = adds_one now a _ _ refl refl refl refl refl refl refl (λ p. p)

@@ -10,10 +10,10 @@ use Rattle.loop_model.specs.declared.entry.Entry.{Entry}
 use Rattle.loop_model.specs.Entries.{is_next, is_disposed}
 use Rattle.dash_script.specs.declared.script.Script.{Script}
 use Rattle.looper_run.specs.Holding.{Sender}
-use Rattle.run_model.specs.Planned.{Makes as Asks, AreFor, plain, token_in}
+use Rattle.run_model.specs.Planned.{Makes as Asks, AreFor, bare_call, token_in}
 use Rattle.run_model.specs.AskedSoFar.{tokens_in}
 use Rattle.run_model.specs.Control.{Timing}
-use Rattle.run_model.specs.Loopers.{Looper, Sent, IsSent}
+use Rattle.run_model.specs.Loopers.{LooperState, SentCall, IsSent}
 use Rattle.run_model.specs.Parts.{sent_on}
 use Rattle.run_model.proofs.RunLaws.{AreFor-snoc, sent_on-append}
 use Rattle.dash_hall.specs.Growth.{own, Makes}
@@ -23,7 +23,7 @@ use Rattle.dash_loopers.specs.Played.{is_disposal, calls_of, IsRootOf, IsPlayed,
 
 -- ---- among the calls that it made
 
-next_plain : (c : Call) → is_next (plain c) ≡ is_next c
+next_plain : (c : Call) → is_next (bare_call c) ≡ is_next c
 next_plain (Post p) = refl
 next_plain (Barrier now) = refl
 next_plain (Unbarrier token) = refl
@@ -53,10 +53,10 @@ tokens_more made e tokens is =
 
 -- ---- among those that it is to make
 
-pub sent_here : (q : ℕ) (xs : List Sent) (x : Sent) → x.queue ≡ q → sent_on q (xs ++ x ∷ []) ≡ sent_on q xs ++ x ∷ []
+pub sent_here : (q : ℕ) (xs : List SentCall) (x : SentCall) → x.queue ≡ q → sent_on q (xs ++ x ∷ []) ≡ sent_on q xs ++ x ∷ []
 sent_here q xs x is = sent_on-append q xs (x ∷ []) ∙ ap (λ (b : Bool). sent_on q xs ++ cond b (x ∷ []) []) (eq-eqb x.queue q is)
 
-pub sent_else : (k : ℕ) (xs : List Sent) (x : Sent) → x.queue ≢ k → sent_on k (xs ++ x ∷ []) ≡ sent_on k xs
+pub sent_else : (k : ℕ) (xs : List SentCall) (x : SentCall) → x.queue ≢ k → sent_on k (xs ++ x ∷ []) ≡ sent_on k xs
 sent_else k xs x isnt = sent_on-append k xs (x ∷ []) ∙ (ap (λ (b : Bool). sent_on k xs ++ cond b (x ∷ []) []) (ne_eqb x.queue k isnt) ∙ append-nil (sent_on k xs))
 
 -- another looper's queue is not its own
@@ -65,21 +65,21 @@ without_self q k j (inl p) is = (let lt : k < q = p.0 in absurd (omega (arith, i
 without_self q k j (inr p) is = (let lt : q < k = p.0 in absurd (omega (arith, is)))
 
 -- a call on the own queue was made
-pub played_call : (s : Script) (q : ℕ) (call : Call) (timing : Timing) (p p' : Sender) (parts : Parts) → is_next call ≡ false → Makes p p' call [] → (a : Looper) → IsPlayed s q (calls_of p) parts a
+pub played_call : (s : Script) (q : ℕ) (call : Call) (timing : Timing) (p p' : Sender) (parts : Parts) → is_next call ≡ false → Makes p p' call [] → (a : LooperState) → IsPlayed s q (calls_of p) parts a
     → IsPlayed s q (calls_of p') parts (with_call q call timing a)
 played_call s q call timing p p' parts looks m a is =
-    let x : Sent = record { queue = q; ask = Asks call; reply = None; timing = timing } in
+    let x : SentCall = record { queue = q; ask = Asks call; reply = None; timing = timing } in
     let made = calls_of p in
     let root = is.shown.stands in
     let tokens : tokens_in made ≡ tokens_in (made ++ m.entry ∷ []) = sym (tokens_more made m.entry [] m.answered ∙ append-nil (tokens_in made)) in
     subst (λ (l : List Entry). IsPlayed s q l parts (with_call q call timing a)) (sym (calls_more p p' call [] looks m)) (record {
       shown = record {
-        calls = subst (λ (l : List Sent). AreFor IsSent [] l (made ++ m.entry ∷ [])) (sym (sent_here q a.sent x refl)) (AreFor-snoc IsSent (sent_on q a.sent) x made m.entry is.shown.calls (record { call = m.makes; reply = tt }));
+        calls = subst (λ (l : List SentCall). AreFor IsSent [] l (made ++ m.entry ∷ [])) (sym (sent_here q a.sent x refl)) (AreFor-snoc IsSent (sent_on q a.sent) x made m.entry is.shown.calls (record { call = m.makes; reply = tt }));
         asked = is.shown.asked;
         turns = is.shown.turns;
         stands = subst (λ (l : List ℕ). IsRootOf s q l (with_call q call timing a) parts.root) tokens (record { edition = root.edition; gauges = root.gauges; lines = root.lines; barrier = root.barrier; barriers = root.barriers; painted = root.painted });
       };
-      elsewhere = λ k j d place near. subst (λ (l : List Sent). AreFor IsSent [] l (own (slice_index_or parts.others.items j d))) (sym (sent_else k a.sent x (without_self q k j place))) (is.elsewhere k j d place near);
+      elsewhere = λ k j d place near. subst (λ (l : List SentCall). AreFor IsSent [] l (own (slice_index_or parts.others.items j d))) (sym (sent_else k a.sent x (without_self q k j place))) (is.elsewhere k j d place near);
       fired = is.fired;
       counts = is.counts;
     })

@@ -22,8 +22,8 @@ use Rattle.looper_run.specs.Holding.{Sender}
 use Rattle.choreographer.specs.declared.host.HostSent.{HostSent}
 use Rattle.choreographer.specs.declared.host.HostSent.TheVariants as host
 use Rattle.choreographer.specs.declared.hosted.Pulse.{Pulse}
-use Rattle.choreographer.specs.Host.{sent_by}
-use Rattle.choreographer.specs.Known.{Known as Pass, SeesQuietly}
+use Rattle.choreographer.specs.Host.{added_sends}
+use Rattle.choreographer.specs.Known.{Pass, SeesQuietly}
 use Rattle.choreographer.proofs.Quiet.{grows_self}
 use Rattle.choreographer.specs.Calls.{PulsedBy, stamp_in}
 use Rattle.loop_model.proofs.Prefixes.{prefix_self}
@@ -32,17 +32,17 @@ use Rattle.run_model.specs.Planned.{Makes as Asks, Unbars, AreFor, frame_handler
 use Rattle.run_model.specs.Planned.{frame_message}
 use Rattle.run_model.specs.AskedSoFar.{tokens_in}
 use Rattle.run_model.specs.Control.{At, NotBefore}
-use Rattle.run_model.specs.Loopers.{Looper, Gauge, Sent, and_sends, and_posts_frame, with_gauge, moved, paints, starts_frame, delivered, reacted, object_set}
+use Rattle.run_model.specs.Loopers.{LooperState, GaugeState, SentCall, and_sends, and_posts_frame, with_gauge, stepped_towards, paints, starts_frame, after_dispatch, reacted, object_set}
 use Rattle.run_model.specs.Loopers.{target_set, traversal_requested, traversal_ran, gauge_moved, callback_ran, IsSent}
 use Rattle.run_model.specs.Parts.{animation_ran, sent_on}
 use Rattle.run_model.specs.FrameRecords.{millis_up, nanos_of, place_after, asks_in}
 use Rattle.dash_hall.specs.Growth.{own, GoesOn, Makes}
-use Rattle.dash_hall.specs.Hosts.{HostOrigin, IsHost, sends_by, asks_of}
+use Rattle.dash_hall.specs.Hosts.{HostOrigin, IsHost, sends_by, pass_asks}
 use Rattle.choreographer.proofs.Recorded.{pulse_records}
 use Rattle.dash_loopers.specs.declared.view_root.Painted.{Painted}
 use Rattle.dash_loopers.specs.declared.view_root.ViewRoot.{ViewRoot}
 use Rattle.dash_loopers.specs.declared.player.Parts.{Parts}
-use Rattle.dash_loopers.specs.Played.{standing, fixed, IsBarrierOf, IsFrameBy, calls_of, IsShown, IsPlayed, Shows, Plays, RanFrame, Delivers, DeliversPulse, Pulses, pulsed, paint_of, KeepsLatest, IsStampedBy, IsNextPulse, EndsLatest, HasLatest, WaitsFor, RunsInTime}
+use Rattle.dash_loopers.specs.Played.{standing, gauge_fixed, IsBarrierOf, IsFrameBy, calls_of, IsShown, IsPlayed, StepsRoot, Plays, RanFrame, Delivers, DeliversPulse, Pulses, looper_pulsed, paint_of, KeepsLatest, IsStampedBy, IsNextPulse, EndsLatest, HasLatest, AwaitsBehind, RunsInTime}
 use Rattle.dash_hall.proofs.FramePosts.{accepted, refused, told_one, told_none}
 use Rattle.dash_loopers.proofs.FrameIds.{turn_grew}
 use Rattle.dash_loopers.proofs.LatestPulses.{still_in_time}
@@ -56,7 +56,7 @@ pub calls_untold : (h : ℕ) (p q : Sender) (a b : Tally) → GoesOn p q a b →
 calls_untold h p q a b goes same = calls_same p q (told_none h p q a b goes same)
 
 -- other parts with the same view root, posters and counts
-pub played_with : (s : Script) (q : ℕ) (made made' : List Entry) (parts parts' : Parts) (a : Looper) → made' ≡ made → parts'.root ≡ parts.root → parts'.others ≡ parts.others → parts'.fired ≡ parts.fired → IsPlayed s q made parts a → IsPlayed s q made' parts' a
+pub played_with : (s : Script) (q : ℕ) (made made' : List Entry) (parts parts' : Parts) (a : LooperState) → made' ≡ made → parts'.root ≡ parts.root → parts'.others ≡ parts.others → parts'.fired ≡ parts.fired → IsPlayed s q made parts a → IsPlayed s q made' parts' a
 played_with s q made made' parts parts' a calls root others fired is = record {
   shown = subst (λ (v : ViewRoot). IsShown s q made' v a) (sym root) (subst (λ (l : List Entry). IsShown s q l parts.root a) (sym calls) is.shown);
   elsewhere = λ k j d place near. subst (λ (l : List Sender). AreFor IsSent [] (sent_on k a.sent) (own (slice_index_or l j d))) (sym (ap (λ v. v.items) others)) (is.elsewhere k j d place (subst (λ (l : List Sender). j < length l) (ap (λ v. v.items) others) near));
@@ -82,14 +82,14 @@ millis_near stamp now near =
     let least : stamp ≤ now * 1000000 = omega (arith, near) in
     omega (arith, whole, least)
 
-frame_sent : (h w : ℕ) (answer : HostSent) (p p' : Sender) (a b : Tally) → GoesOn p p' a b → answer ≢ host.NoMemory → sends_by h p' ≡ sends_by h p ++ sent_by 0 0 w answer
+frame_sent : (h w : ℕ) (answer : HostSent) (p p' : Sender) (a b : Tally) → GoesOn p p' a b → answer ≢ host.NoMemory → sends_by h p' ≡ sends_by h p ++ added_sends 0 0 w answer
     → Makes p p' (Post (record { handler = h; what = 0; arg = 0; obj = None; callback = None; when = w; asynchronous = true; slot = None })) []
 frame_sent h w host.Accepted p p' a b goes isnt sends = told_one h 0 0 w host.Accepted p p' a b goes accepted sends
 frame_sent h w host.Refused p p' a b goes isnt sends = told_one h 0 0 w host.Refused p p' a b goes refused sends
 frame_sent h w host.NoMemory p p' a b goes isnt sends = absurd (isnt refl)
 
 -- what is played says nothing of the latest pulse
-played_pulsed : (s : Script) (q stamp : ℕ) (made : List Entry) (parts : Parts) (a : Looper) → IsPlayed s q made parts a → IsPlayed s q made parts (record a { stamp = stamp; awaits = true })
+played_pulsed : (s : Script) (q stamp : ℕ) (made : List Entry) (parts : Parts) (a : LooperState) → IsPlayed s q made parts a → IsPlayed s q made parts (record a { stamp = stamp; awaits = true })
 played_pulsed s q stamp made parts a is =
     let root = is.shown.stands in
     record {
@@ -119,7 +119,7 @@ pulse_delivered s q now p p' a b parts parts' (Some pulse) goes (x, y, n, t, mom
       turn_grew parts.frames parts'.frames x y t,
       ap asks_in (pulse_records parts.frames parts'.frames (λ n. n == nanos_of now) (sends_by (frame_handler q) p) (sends_by (frame_handler q) p') (Some pulse) (x, y, n, t, moment, (some, left, sends))),
       millis_near pulse.stamp now near,
-      λ text l is. played_with s q (calls_of p') (calls_of p') parts parts' (pulsed q (Some pulse.stamp) l) refl root others fired
+      λ text l is. played_with s q (calls_of p') (calls_of p') parts parts' (looper_pulsed q (Some pulse.stamp) l) refl root others fired
           (played_pulsed s q pulse.stamp (calls_of p') parts _ (played_call s q (Post (frame_message q 0 0 (pulse.stamp / 1000000))) (NotBefore (millis_up pulse.stamp)) p p' parts refl made l is)),
     ))
 
@@ -145,7 +145,7 @@ pulse_hosted s q now u o o' p p0 p' b parts parts' r same is began at moment min
     pulse_delivered s q now p p' o.pass b parts parts' r (hosted_on o o' p p' b same is began)
     (pulse_here q now u o o' p p0 p' parts.frames parts'.frames r same at moment mine pulse) root others fired
 
--- what holds where a call was made holds unless memory was wanting
+-- what holds where a call was made holds unless memory ran out
 pub unless_made : {E : Type 0} (r : Did) (done : Result Unit E) (P Q : Type 0) → (r ≡ No → ⊥) → (r ≡ Yes → is_ok done ≡ true) → OnOk done P → (P → Q) → Unless r Q
 unless_made Yes (Ok u) P Q isnt is h f = f h
 unless_made Yes (Err e) P Q isnt is h f = absurd (let wrong : false ≡ true = is refl in cc wrong)
@@ -168,106 +168,106 @@ untold_hosted o o' p p0 p' b same is began at sends =
 -- ---- what a step leaves as it was
 
 -- nothing was sent on another queue, and no rule was counted
-pub record StaysElsewhere (q : ℕ) (a b : Looper) : Type 0 where
+pub record StaysElsewhere (q : ℕ) (a b : LooperState) : Type 0 where
   pub elsewhere : (k : ℕ) → k ≢ q → sent_on k b.sent ≡ sent_on k a.sent
   pub fired : b.fired ≡ a.fired
 
-stays_self : (q : ℕ) (a : Looper) → StaysElsewhere q a a
+stays_self : (q : ℕ) (a : LooperState) → StaysElsewhere q a a
 stays_self q a = record { elsewhere = λ k isnt. refl; fired = refl }
 
-stays_then : (q : ℕ) (a b c : Looper) → StaysElsewhere q a b → StaysElsewhere q b c → StaysElsewhere q a c
+stays_then : (q : ℕ) (a b c : LooperState) → StaysElsewhere q a b → StaysElsewhere q b c → StaysElsewhere q a c
 stays_then q a b c f g = record { elsewhere = λ k isnt. g.elsewhere k isnt ∙ f.elsewhere k isnt; fired = g.fired ∙ f.fired }
 
-stays_if : (q : ℕ) (t : Bool) (a b c : Looper) → StaysElsewhere q a b → StaysElsewhere q a c → StaysElsewhere q a (if t then b else c)
+stays_if : (q : ℕ) (t : Bool) (a b c : LooperState) → StaysElsewhere q a b → StaysElsewhere q a c → StaysElsewhere q a (if t then b else c)
 stays_if q true a b c f g = f
 stays_if q false a b c f g = g
 
-stays_or : {X : Type 0} (q : ℕ) (o : Option X) (a : Looper) (f : X → Looper) → ((x : X) → StaysElsewhere q a (f x)) → StaysElsewhere q a (option_map_or f o a)
+stays_or : {X : Type 0} (q : ℕ) (o : Option X) (a : LooperState) (f : X → LooperState) → ((x : X) → StaysElsewhere q a (f x)) → StaysElsewhere q a (option_map_or f o a)
 stays_or q None a f h = stays_self q a
 stays_or q (Some x) a f h = h x
 
 module _ (s : Script) (q now : ℕ) where
-  stays_requested : (a : Looper) → StaysElsewhere q a (traversal_requested s q now a)
+  stays_requested : (a : LooperState) → StaysElsewhere q a (traversal_requested s q now a)
   stays_requested a = stays_if q (is_some a.barrier) a a _ (stays_self q a) (record {
     elsewhere = λ k isnt. sent_else k a.sent (record { queue = q; ask = Asks (Barrier 0); reply = None; timing = At now }) (λ e. isnt (sym e));
     fired = refl;
   })
 
-  stays_target : (g target : ℕ) (x : Gauge) (a : Looper) → StaysElsewhere q a (target_set s q now g target x a)
+  stays_target : (g target : ℕ) (x : GaugeState) (a : LooperState) → StaysElsewhere q a (target_set s q now g target x a)
   stays_target g target x a =
-      let moving : Looper = and_posts_frame now animation_phase (animation_id g) (with_gauge g (record { value = x.value; target = target; animating = true }) a) in
+      let moving : LooperState = and_posts_frame now animation_phase (animation_id g) (with_gauge g (record { value = x.value; target = target; animating = true }) a) in
       stays_if q (x.animating || x.value == target) a _ (traversal_requested s q now moving) (record { elsewhere = λ k isnt. refl; fired = refl })
       (stays_then q a moving (traversal_requested s q now moving) (record { elsewhere = λ k isnt. refl; fired = refl }) (stays_requested moving))
 
-  pub stays_object : (g target : ℕ) (a : Looper) → StaysElsewhere q a (object_set s q now g target a)
+  pub stays_object : (g target : ℕ) (a : LooperState) → StaysElsewhere q a (object_set s q now g target a)
   stays_object g target a = stays_if q (gauge_looper s g == q) a _ a (stays_or q (slice_get a.gauges g) a (λ x. target_set s q now g target x a) (λ x. stays_target g target x a)) (stays_self q a)
 
-  stays_moved : (g : ℕ) (x : Gauge) (a : Looper) → StaysElsewhere q a (gauge_moved s q now g x a)
+  stays_moved : (g : ℕ) (x : GaugeState) (a : LooperState) → StaysElsewhere q a (gauge_moved s q now g x a)
   stays_moved g x a =
-      let value : ℕ = moved (gauge_line s g).step x.target x.value in
-      let there : Looper = with_gauge g (record { value = value; target = x.target; animating = false }) a in
-      let on : Looper = with_gauge g (record x { value = value }) a in
+      let value : ℕ = stepped_towards (gauge_line s g).step x.target x.value in
+      let there : LooperState = with_gauge g (record { value = value; target = x.target; animating = false }) a in
+      let on : LooperState = with_gauge g (record x { value = value }) a in
       stays_if q (value == x.target) a (traversal_requested s q now there) (and_posts_frame now animation_phase (animation_id g) (traversal_requested s q now on))
       (stays_then q a there (traversal_requested s q now there) (record { elsewhere = λ k isnt. refl; fired = refl }) (stays_requested there))
       (let on_its_way = stays_requested on in record { elsewhere = λ k isnt. on_its_way.elsewhere k isnt; fired = on_its_way.fired })
 
-  stays_animated : (g : ℕ) (x : Gauge) (a : Looper) → StaysElsewhere q a (animation_ran s q now g x a)
+  stays_animated : (g : ℕ) (x : GaugeState) (a : LooperState) → StaysElsewhere q a (animation_ran s q now g x a)
   stays_animated g x a = stays_if q x.animating a (gauge_moved s q now g x a) a (stays_moved g x a) (stays_self q a)
 
-  stays_traversed : (a : Looper) → StaysElsewhere q a (traversal_ran s q now a)
+  stays_traversed : (a : LooperState) → StaysElsewhere q a (traversal_ran s q now a)
   stays_traversed a = stays_or q a.barrier a (λ k. and_sends q now (Unbars k) (record a { barrier = None; painted = a.painted ++ paints s q a.gauges })) (λ n. record {
     elsewhere = λ k isnt. sent_else k a.sent (record { queue = q; ask = Unbars n; reply = None; timing = At now }) (λ e. isnt (sym e));
     fired = refl;
   })
 
-  stays_called : (id : ℕ) (a : Looper) → StaysElsewhere q a (callback_ran s q now a id)
+  stays_called : (id : ℕ) (a : LooperState) → StaysElsewhere q a (callback_ran s q now a id)
   stays_called id a = stays_if q (id == traversal_id) a (traversal_ran s q now a) _ (stays_traversed a)
       (stays_if q (nat_le 1000000 id) a _ a (stays_or q (slice_get a.gauges (id - 1000000)) a (λ x. animation_ran s q now (id - 1000000) x a) (λ x. stays_animated (id - 1000000) x a)) (stays_self q a))
 
-  pub stays_ran : (ids : List ℕ) (a : Looper) → StaysElsewhere q a (fold (callback_ran s q now) a ids)
+  pub stays_ran : (ids : List ℕ) (a : LooperState) → StaysElsewhere q a (fold (callback_ran s q now) a ids)
   stays_ran [] a = stays_self q a
   stays_ran (id ∷ ids) a = stays_then q a (callback_ran s q now a id) (fold (callback_ran s q now) (callback_ran s q now a id) ids) (stays_called id a) (stays_ran ids (callback_ran s q now a id))
 
 -- a message with an object paints nothing
-painted_if : (t : Bool) (b c : Looper) (l : List Act) → b.painted ≡ l → c.painted ≡ l → (if t then b else c).painted ≡ l
+painted_if : (t : Bool) (b c : LooperState) (l : List Act) → b.painted ≡ l → c.painted ≡ l → (if t then b else c).painted ≡ l
 painted_if true b c l f g = f
 painted_if false b c l f g = g
 
-painted_or : {X : Type 0} (o : Option X) (a : Looper) (f : X → Looper) → ((x : X) → (f x).painted ≡ a.painted) → (option_map_or f o a).painted ≡ a.painted
+painted_or : {X : Type 0} (o : Option X) (a : LooperState) (f : X → LooperState) → ((x : X) → (f x).painted ≡ a.painted) → (option_map_or f o a).painted ≡ a.painted
 painted_or None a f h = refl
 painted_or (Some x) a f h = h x
 
-requested_painted : (s : Script) (q now : ℕ) (a : Looper) → (traversal_requested s q now a).painted ≡ a.painted
+requested_painted : (s : Script) (q now : ℕ) (a : LooperState) → (traversal_requested s q now a).painted ≡ a.painted
 requested_painted s q now a = painted_if (is_some a.barrier) a _ a.painted refl refl
 
-target_painted : (s : Script) (q now g target : ℕ) (x : Gauge) (a : Looper) → (target_set s q now g target x a).painted ≡ a.painted
+target_painted : (s : Script) (q now g target : ℕ) (x : GaugeState) (a : LooperState) → (target_set s q now g target x a).painted ≡ a.painted
 target_painted s q now g target x a =
-    let moving : Looper = and_posts_frame now animation_phase (animation_id g) (with_gauge g (record { value = x.value; target = target; animating = true }) a) in
+    let moving : LooperState = and_posts_frame now animation_phase (animation_id g) (with_gauge g (record { value = x.value; target = target; animating = true }) a) in
     painted_if (x.animating || x.value == target) _ (traversal_requested s q now moving) a.painted refl (requested_painted s q now moving)
 
-pub object_painted : (s : Script) (q now g target : ℕ) (a : Looper) → (object_set s q now g target a).painted ≡ a.painted
+pub object_painted : (s : Script) (q now g target : ℕ) (a : LooperState) → (object_set s q now g target a).painted ≡ a.painted
 object_painted s q now g target a =
     painted_if (gauge_looper s g == q) _ a a.painted (painted_or (slice_get a.gauges g) a (λ x. target_set s q now g target x a) (λ x. target_painted s q now g target x a)) refl
 
 -- a step of the view root is one of all that the looper has
-pub played_shown : (s : Script) (q : ℕ) (step : Looper → Looper) (made made' : List Entry) (parts parts' : Parts) → Shows s q step made parts.root made' parts'.root → ((a : Looper) → StaysElsewhere q a (step a)) → parts'.others ≡ parts.others
+pub played_shown : (s : Script) (q : ℕ) (step : LooperState → LooperState) (made made' : List Entry) (parts parts' : Parts) → StepsRoot s q step made parts.root made' parts'.root → ((a : LooperState) → StaysElsewhere q a (step a)) → parts'.others ≡ parts.others
     → parts'.fired ≡ parts.fired → Plays s q step made parts made' parts'
 played_shown s q step made made' parts parts' shows stays others fired text a is =
     let still = stays a in
     record {
       shown = shows text a is.shown;
-      elsewhere = λ k j d place near. subst (λ (l : List Sent). AreFor IsSent [] l (own (slice_index_or parts'.others.items j d))) (sym (still.elsewhere k (λ e. without_self q k j place (sym e))))
+      elsewhere = λ k j d place near. subst (λ (l : List SentCall). AreFor IsSent [] l (own (slice_index_or parts'.others.items j d))) (sym (still.elsewhere k (λ e. without_self q k j place (sym e))))
           (subst (λ (l : List Sender). AreFor IsSent [] (sent_on k a.sent) (own (slice_index_or l j d))) (sym (ap (λ v. v.items) others)) (is.elsewhere k j d place (subst (λ (l : List Sender). j < length l) (ap (λ v. v.items) others) near)));
       fired = ap (λ v. v.items) fired ∙ (is.fired ∙ sym still.fired);
       counts = ap (λ v. length v.items) fired ∙ is.counts;
     }
 
 -- a target was set by a host that was made of the looper's poster
-pub set_hosted : {E : Type 0} (r : Result Unit E) (s : Script) (q now now' g target : ℕ) (p p0 : Sender) (made' : List Entry) (parts parts' : Parts) → OnOk r (Shows s q (object_set s q now' g target) (calls_of p0) parts.root made' parts'.root) → now' ≡ now → p0 ≡ p
+pub set_hosted : {E : Type 0} (r : Result Unit E) (s : Script) (q now now' g target : ℕ) (p p0 : Sender) (made' : List Entry) (parts parts' : Parts) → OnOk r (StepsRoot s q (object_set s q now' g target) (calls_of p0) parts.root made' parts'.root) → now' ≡ now → p0 ≡ p
     → parts'.others ≡ parts.others → parts'.fired ≡ parts.fired → OnOk r (Plays s q (object_set s q now g target) (calls_of p) parts made' parts')
 set_hosted (Ok u) s q now now' g target p p0 made' parts parts' shows at same others fired =
     played_shown s q (object_set s q now g target) (calls_of p) made' parts parts'
-    (subst (λ (n : ℕ). Shows s q (object_set s q n g target) (calls_of p) parts.root made' parts'.root) at (subst (λ (z : Sender). Shows s q (object_set s q now' g target) (calls_of z) parts.root made' parts'.root) same shows))
+    (subst (λ (n : ℕ). StepsRoot s q (object_set s q n g target) (calls_of p) parts.root made' parts'.root) at (subst (λ (z : Sender). StepsRoot s q (object_set s q now' g target) (calls_of z) parts.root made' parts'.root) same shows))
     (stays_object s q now g target) others fired
 set_hosted (Err e) s q now now' g target p p0 made' parts parts' shows at same others fired = tt
 
@@ -280,26 +280,26 @@ frame_hosted (Ok u) s q now now' interval phases is_moment is_moment' p p0 p' pa
   subst (λ (f : ℕ → Bool). RanFrame s.period (phase_count s.edition) f parts.frames parts'.frames ids) uptime (subst (λ (n : ℕ). RanFrame s.period n is_moment' parts.frames parts'.frames ids) four (subst (λ (n : ℕ). RanFrame n phases is_moment' parts.frames parts'.frames ids) period ran)),
   ends,
   played_shown s q (λ a. fold (callback_ran s q now) a ids) (calls_of p) (calls_of p') parts parts'
-      (subst (λ (n : ℕ). Shows s q (λ a. fold (callback_ran s q n) a ids) (calls_of p) parts.root (calls_of p') parts'.root) at (subst (λ (z : Sender). Shows s q (λ a. fold (callback_ran s q now') a ids) (calls_of z) parts.root (calls_of p') parts'.root) same (shows s q)))
+      (subst (λ (n : ℕ). StepsRoot s q (λ a. fold (callback_ran s q n) a ids) (calls_of p) parts.root (calls_of p') parts'.root) at (subst (λ (z : Sender). StepsRoot s q (λ a. fold (callback_ran s q now') a ids) (calls_of z) parts.root (calls_of p') parts'.root) same (shows s q)))
       (stays_ran s q now ids) others fired,
 )
 frame_hosted (Err e) s q now now' interval phases is_moment is_moment' p p0 p' parts parts' h period four at uptime same others fired = tt
 
 -- ---- a message was delivered
 
-if_starts : (c h w : Bool) (x y z : Looper) → (not c && h && w) ≡ true → (if c then x else if h then (if w then y else x) else z) ≡ y
+if_starts : (c h w : Bool) (x y z : LooperState) → (not c && h && w) ≡ true → (if c then x else if h then (if w then y else x) else z) ≡ y
 if_starts true h w x y z is = absurd cc
 if_starts false false w x y z is = absurd cc
 if_starts false true false x y z is = absurd cc
 if_starts false true true x y z is = refl
 
-if_quiet : (c h w : Bool) (x y z : Looper) → c ≡ false → h ≡ true → w ≡ false → (if c then x else if h then (if w then y else x) else z) ≡ x
+if_quiet : (c h w : Bool) (x y z : LooperState) → c ≡ false → h ≡ true → w ≡ false → (if c then x else if h then (if w then y else x) else z) ≡ x
 if_quiet true h w x y z a b d = refl
 if_quiet false false w x y z a b d = absurd (let wrong : false ≡ true = b in cc wrong)
 if_quiet false true false x y z a b d = refl
 if_quiet false true true x y z a b d = absurd (let wrong : true ≡ false = d in cc wrong)
 
-if_other : (c h : Bool) (x y z : Looper) → c ≡ false → h ≡ false → (if c then x else if h then y else z) ≡ z
+if_other : (c h : Bool) (x y z : LooperState) → c ≡ false → h ≡ false → (if c then x else if h then y else z) ≡ z
 if_other true h x y z a b = absurd (let wrong : true ≡ false = a in cc wrong)
 if_other false true x y z a b = absurd (let wrong : true ≡ false = b in cc wrong)
 if_other false false x y z a b = refl
@@ -309,20 +309,20 @@ pub frame_starts : (q : ℕ) (m : PostData) → m.callback ≡ None → m.handle
 frame_starts q m none mine is = λ i. not (is_some (none i)) && eq-eqb m.handler (frame_handler q) mine i && eq-eqb m.what 0 is i
 
 -- the message of a frame runs its callbacks
-pub delivered_frame : (s : Script) (q now : ℕ) (ids : List ℕ) (m : PostData) (a : Looper) → starts_frame q m ≡ true → delivered s q now ids m a ≡ fold (callback_ran s q now) a ids
+pub delivered_frame : (s : Script) (q now : ℕ) (ids : List ℕ) (m : PostData) (a : LooperState) → starts_frame q m ≡ true → after_dispatch s q now ids m a ≡ fold (callback_ran s q now) a ids
 delivered_frame s q now ids m a is = if_starts (is_some m.callback) (m.handler == frame_handler q) (m.what == 0) a (fold (callback_ran s q now) a ids) _ is
 
 -- another message of the choreographer changes nothing
-pub delivered_quiet : (s : Script) (q now : ℕ) (m : PostData) (a : Looper) → m.callback ≡ None → m.handler ≡ frame_handler q → m.what ≢ 0 → delivered s q now [] m a ≡ a
+pub delivered_quiet : (s : Script) (q now : ℕ) (m : PostData) (a : LooperState) → m.callback ≡ None → m.handler ≡ frame_handler q → m.what ≢ 0 → after_dispatch s q now [] m a ≡ a
 delivered_quiet s q now m a none mine isnt = if_quiet (is_some m.callback) (m.handler == frame_handler q) (m.what == 0) a a _ (ap is_some none) (eq-eqb m.handler (frame_handler q) mine) (ne_eqb m.what 0 isnt)
 
 -- a message with an object sets its target
-pub delivered_object : (s : Script) (q now : ℕ) (m : PostData) (object : ℕ) (a : Looper) → m.callback ≡ None → m.handler ≢ frame_handler q → m.obj ≡ Some object → delivered s q now [] m a ≡ object_set s q now object m.arg a
+pub delivered_object : (s : Script) (q now : ℕ) (m : PostData) (object : ℕ) (a : LooperState) → m.callback ≡ None → m.handler ≢ frame_handler q → m.obj ≡ Some object → after_dispatch s q now [] m a ≡ object_set s q now object m.arg a
 delivered_object s q now m object a none other some =
     if_other (is_some m.callback) (m.handler == frame_handler q) a _ _ (ap is_some none) (ne_eqb m.handler (frame_handler q) other) ∙ ap (λ (o : Option ℕ). option_map_or (λ g. object_set s q now g m.arg a) o (reacted s now m a)) some
 
 -- any other is one for the rules
-pub delivered_plain : (s : Script) (q now : ℕ) (m : PostData) (a : Looper) → m.callback ≡ None → m.handler ≢ frame_handler q → m.obj ≡ None → delivered s q now [] m a ≡ reacted s now m a
+pub delivered_plain : (s : Script) (q now : ℕ) (m : PostData) (a : LooperState) → m.callback ≡ None → m.handler ≢ frame_handler q → m.obj ≡ None → after_dispatch s q now [] m a ≡ reacted s now m a
 delivered_plain s q now m a none other nothing =
     if_other (is_some m.callback) (m.handler == frame_handler q) a _ _ (ap is_some none) (ne_eqb m.handler (frame_handler q) other) ∙ ap (λ (o : Option ℕ). option_map_or (λ g. object_set s q now g m.arg a) o (reacted s now m a)) nothing
 
@@ -346,7 +346,7 @@ frame_delivered s q now is_moment m made made' parts mid parts' acts acts0 acts'
     framed = subst (λ (f : Pass). IsFrameBy s.period (phase_count s.edition) is_moment parts.frames f ran.frame ids) (sym frames) ran.framed;
     within = subst (λ (f : Pass). place_after 0 ran.frame ≤ length f.view.seen) (sym frames) ran.within;
     grew = subst (λ (f : Pass). IsPrefix parts.frames.view.seen f.view.seen) (sym frames) ran.grew;
-    asks = ap asks_of frames ∙ ran.asks;
+    asks = ap pass_asks frames ∙ ran.asks;
     stamped = λ stamp waits has. subst (λ (f : Pass). IsStampedBy f ran.frame stamp) (sym frames) (ran.stamped stamp waits has);
     in_time = subst (λ (f : Pass). RunsInTime is_moment parts.frames f ran.frame) (sym frames) ran.in_time;
   };
@@ -357,19 +357,19 @@ frame_delivered s q now is_moment m made made' parts mid parts' acts acts0 acts'
     latest = λ stamp has. subst (λ (b : Bool). HasLatest parts'.frames stamp b) (sym over) (subst (λ (f : Pass). HasLatest f stamp false) (sym frames) (ends stamp (subst (HasLatest parts.frames stamp) awaited has)));
   };
   plays = λ text a unpainted is. (
-      let b : Looper = fold (callback_ran s q now) a ids in
+      let b : LooperState = fold (callback_ran s q now) a ids in
       let done : IsPlayed s q made' mid b = plays text a is in
       let root = done.shown.stands in
-      subst (λ (z : Looper). IsPlayed s q made' parts' (record z { painted = [] }) × (acts' ≡ acts ++ z.painted)) (sym (delivered_frame s q now ids m a starts)) (
+      subst (λ (z : LooperState). IsPlayed s q made' parts' (record z { painted = [] }) × (acts' ≡ acts ++ z.painted)) (sym (delivered_frame s q now ids m a starts)) (
         record {
           shown = record {
             calls = done.shown.calls;
-            asked = ap asks_of pass ∙ done.shown.asked;
+            asked = ap pass_asks pass ∙ done.shown.asked;
             turns = ap (λ (f : Pass). f.view.turns) pass ∙ done.shown.turns;
             stands = record {
               edition = edition ∙ root.edition;
               gauges = ap (λ v. map standing v.items) gauges ∙ root.gauges;
-              lines = ap (λ v. map fixed v.items) gauges ∙ root.lines;
+              lines = ap (λ v. map gauge_fixed v.items) gauges ∙ root.lines;
               barrier = subst (IsBarrierOf (tokens_in made') b.barrier) (sym barrier) root.barrier;
               barriers = root.barriers;
               painted = ap (map paint_of) none;
@@ -384,25 +384,25 @@ frame_delivered s q now is_moment m made made' parts mid parts' acts acts0 acts'
 }
 
 -- a message that begins no frame and paints nothing
-pub step_delivered : (s : Script) (q now : ℕ) (is_moment : ℕ → Bool) (m : PostData) (made made' : List Entry) (parts parts' : Parts) (acts acts' : List Act) (step : Looper → Looper) → IsPrefix parts.frames.view.seen parts'.frames.view.seen → asks_of parts'.frames ≡ asks_of parts.frames → WaitsFor q m parts parts' → KeepsLatest parts.frames parts'.frames → SeesQuietly parts.frames parts'.frames
-    → ((a : Looper) → delivered s q now [] m a ≡ step a) → ((a : Looper) → (step a).painted ≡ a.painted) → Plays s q step made parts made' parts' → acts' ≡ acts → Delivers s q now is_moment m made made' parts parts' acts acts'
+pub step_delivered : (s : Script) (q now : ℕ) (is_moment : ℕ → Bool) (m : PostData) (made made' : List Entry) (parts parts' : Parts) (acts acts' : List Act) (step : LooperState → LooperState) → IsPrefix parts.frames.view.seen parts'.frames.view.seen → pass_asks parts'.frames ≡ pass_asks parts.frames → AwaitsBehind q m parts parts' → KeepsLatest parts.frames parts'.frames → SeesQuietly parts.frames parts'.frames
+    → ((a : LooperState) → after_dispatch s q now [] m a ≡ step a) → ((a : LooperState) → (step a).painted ≡ a.painted) → Plays s q step made parts made' parts' → acts' ≡ acts → Delivers s q now is_moment m made made' parts parts' acts acts'
 step_delivered s q now is_moment m made made' parts parts' acts acts' step grew asks waits keeps quiet is_step still plays same = record {
   ids = [];
-  ran = record { frame = None; start = 0; started = refl; framed = λ fs begins is. (refl, refl, refl, refl); within = omega arith; grew = grew; asks = asks ∙ sym (append-nil (asks_of parts.frames)); stamped = λ stamp w has fs begins. refl; in_time = still_in_time is_moment parts.frames parts'.frames keeps quiet };
+  ran = record { frame = None; start = 0; started = refl; framed = λ fs begins is. (refl, refl, refl, refl); within = omega arith; grew = grew; asks = asks ∙ sym (append-nil (pass_asks parts.frames)); stamped = λ stamp w has fs begins. refl; in_time = still_in_time is_moment parts.frames parts'.frames keeps quiet };
   starts = refl;
   awaited = refl;
   waits = waits;
   plays = λ text a unpainted is. (
-      let b : Looper = step a in
+      let b : LooperState = step a in
       let nothing : b.painted ≡ [] = still a ∙ unpainted in
-      subst (λ (z : Looper). IsPlayed s q made' parts' (record z { painted = [] }) × (acts' ≡ acts ++ z.painted)) (sym (is_step a)) (
+      subst (λ (z : LooperState). IsPlayed s q made' parts' (record z { painted = [] }) × (acts' ≡ acts ++ z.painted)) (sym (is_step a)) (
         subst (λ (l : List Act). IsPlayed s q made' parts' (record b { painted = l })) nothing (plays text a is),
         same ∙ (sym (append-nil acts) ∙ ap (λ (l : List Act). acts ++ l) (sym nothing)),
       ));
 }
 
 -- a message that starts no frame leaves what is awaited as it was, and so does one for whose frame no pulse came
-pub waits_still : (q : ℕ) (m : PostData) (parts parts' : Parts) → (parts.awaits && starts_frame q m) ≡ false → KeepsLatest parts.frames parts'.frames → parts'.awaits ≡ parts.awaits → WaitsFor q m parts parts'
+pub waits_still : (q : ℕ) (m : PostData) (parts parts' : Parts) → (parts.awaits && starts_frame q m) ≡ false → KeepsLatest parts.frames parts'.frames → parts'.awaits ≡ parts.awaits → AwaitsBehind q m parts parts'
 waits_still q m parts parts' isnt keeps same = record {
   waits = same ∙ sym (kept parts.awaits (starts_frame q m) isnt);
   latest = λ stamp has. subst (HasLatest parts'.frames stamp) (sym same) (keeps stamp parts.awaits has);
@@ -414,10 +414,10 @@ waits_still q m parts parts' isnt keeps same = record {
     kept true true isnt = absurd (let wrong : true ≡ false = isnt in cc wrong)
 
 -- the same where the pass of frames is as it was
-pub still_delivered : (s : Script) (q now : ℕ) (is_moment : ℕ → Bool) (m : PostData) (made made' : List Entry) (parts parts' : Parts) (acts acts' : List Act) (step : Looper → Looper) → parts'.frames ≡ parts.frames → parts'.awaits ≡ parts.awaits → (parts.awaits && starts_frame q m) ≡ false
-    → ((a : Looper) → delivered s q now [] m a ≡ step a) → ((a : Looper) → (step a).painted ≡ a.painted) → Plays s q step made parts made' parts' → acts' ≡ acts → Delivers s q now is_moment m made made' parts parts' acts acts'
+pub still_delivered : (s : Script) (q now : ℕ) (is_moment : ℕ → Bool) (m : PostData) (made made' : List Entry) (parts parts' : Parts) (acts acts' : List Act) (step : LooperState → LooperState) → parts'.frames ≡ parts.frames → parts'.awaits ≡ parts.awaits → (parts.awaits && starts_frame q m) ≡ false
+    → ((a : LooperState) → after_dispatch s q now [] m a ≡ step a) → ((a : LooperState) → (step a).painted ≡ a.painted) → Plays s q step made parts made' parts' → acts' ≡ acts → Delivers s q now is_moment m made made' parts parts' acts acts'
 still_delivered s q now is_moment m made made' parts parts' acts acts' step frames awaits isnt is_step still plays same =
-    step_delivered s q now is_moment m made made' parts parts' acts acts' step (subst (λ (f : Pass). IsPrefix parts.frames.view.seen f.view.seen) (sym frames) (prefix_self parts.frames.view.seen)) (ap asks_of frames) (waits_still q m parts parts' isnt keeps awaits) keeps quiet is_step still plays same
+    step_delivered s q now is_moment m made made' parts parts' acts acts' step (subst (λ (f : Pass). IsPrefix parts.frames.view.seen f.view.seen) (sym frames) (prefix_self parts.frames.view.seen)) (ap pass_asks frames) (waits_still q m parts parts' isnt keeps awaits) keeps quiet is_step still plays same
   where
     keeps : KeepsLatest parts.frames parts'.frames
     keeps = subst (KeepsLatest parts.frames) (sym frames) (λ stamp w has. has)

@@ -16,11 +16,11 @@ use Rattle.loop_model.specs.declared.entry.Entry.{Entry}
 use Rattle.dash_script.specs.declared.script.Rule.{Rule}
 use Rattle.dash_script.specs.declared.script.Script.{Script}
 use Rattle.looper_run.specs.Holding.{Sender}
-use Rattle.run_model.specs.Planned.{Makes as Asks, AreFor, plain, looper_of, sent_by}
+use Rattle.run_model.specs.Planned.{Makes as Asks, AreFor, bare_call, looper_of, sent_by}
 use Rattle.run_model.specs.AskedSoFar.{tokens_in}
 use Rattle.run_model.specs.Control.{Timing, At}
 use Rattle.loop_model.specs.Posts.{moment_after}
-use Rattle.run_model.specs.Loopers.{Looper, Sent, fires, reaction, reacted, IsSent}
+use Rattle.run_model.specs.Loopers.{LooperState, SentCall, fires, reaction, reacted, IsSent}
 use Rattle.run_model.specs.Parts.{sent_on}
 use Rattle.run_model.proofs.RunLaws.{AreFor-snoc}
 use Rattle.dash_hall.specs.Growth.{own, Makes}
@@ -35,27 +35,27 @@ use Rattle.dash_loopers.proofs.MoreCalls.{sent_here, sent_else, without_self, pl
 -- ---- one call more
 
 -- the calls for what is sent, with one more
-pub one_for : (k : ℕ) (xs : List Sent) (call : Call) (timing : Timing) (es : List Entry) (e : Entry) → plain e.call ≡ call → AreFor IsSent [] (sent_on k xs) es
+pub one_for : (k : ℕ) (xs : List SentCall) (call : Call) (timing : Timing) (es : List Entry) (e : Entry) → bare_call e.call ≡ call → AreFor IsSent [] (sent_on k xs) es
     → AreFor IsSent [] (sent_on k (xs ++ record { queue = k; ask = Asks call; reply = None; timing = timing } ∷ [])) (es ++ e ∷ [])
 one_for k xs call timing es e is h =
-    let x : Sent = record { queue = k; ask = Asks call; reply = None; timing = timing } in
-    subst (λ (l : List Sent). AreFor IsSent [] l (es ++ e ∷ [])) (sym (sent_here k xs x refl))
+    let x : SentCall = record { queue = k; ask = Asks call; reply = None; timing = timing } in
+    subst (λ (l : List SentCall). AreFor IsSent [] l (es ++ e ∷ [])) (sym (sent_here k xs x refl))
     (AreFor-snoc IsSent (sent_on k xs) x es e h (record { call = is; reply = tt }))
 
 -- a call elsewhere leaves what is sent on this queue
-pub none_for : (k queue : ℕ) (xs : List Sent) (call : Call) (timing : Timing) (es : List Entry) → queue ≢ k → AreFor IsSent [] (sent_on k xs) es
+pub none_for : (k queue : ℕ) (xs : List SentCall) (call : Call) (timing : Timing) (es : List Entry) → queue ≢ k → AreFor IsSent [] (sent_on k xs) es
     → AreFor IsSent [] (sent_on k (xs ++ record { queue = queue; ask = Asks call; reply = None; timing = timing } ∷ [])) es
 none_for k queue xs call timing es other h =
-    subst (λ (l : List Sent). AreFor IsSent [] l es) (sym (sent_else k xs (record { queue = queue; ask = Asks call; reply = None; timing = timing }) other)) h
+    subst (λ (l : List SentCall). AreFor IsSent [] l es) (sym (sent_else k xs (record { queue = queue; ask = Asks call; reply = None; timing = timing }) other)) h
 
 -- a view root stands as it stood, whatever was sent
-pub root_sent : (s : Script) (q : ℕ) (tokens : List ℕ) (a : Looper) (xs : List Sent) (root : ViewRoot) → IsRootOf s q tokens a root → IsRootOf s q tokens (record a { sent = xs }) root
+pub root_sent : (s : Script) (q : ℕ) (tokens : List ℕ) (a : LooperState) (xs : List SentCall) (root : ViewRoot) → IsRootOf s q tokens a root → IsRootOf s q tokens (record a { sent = xs }) root
 root_sent s q tokens a xs root h = record { edition = h.edition; gauges = h.gauges; lines = h.lines; barrier = h.barrier; barriers = h.barriers; painted = h.painted }
 
 -- a call on the own queue
-pub called_here : (s : Script) (q : ℕ) (post : PostData) (timing : Timing) (p p' : Sender) (parts : Parts) → Makes p p' (plain (Post post)) []
-    → Plays s q (with_call q (plain (Post post)) timing) (calls_of p) parts (calls_of p') parts
-called_here s q post timing p p' parts m text a is = played_call s q (plain (Post post)) timing p p' parts refl m a is
+pub called_here : (s : Script) (q : ℕ) (post : PostData) (timing : Timing) (p p' : Sender) (parts : Parts) → Makes p p' (bare_call (Post post)) []
+    → Plays s q (with_call q (bare_call (Post post)) timing) (calls_of p) parts (calls_of p') parts
+called_here s q post timing p p' parts m text a is = played_call s q (bare_call (Post post)) timing p p' parts refl m a is
 
 -- which queue stands at which place
 same_place : (q k k' j j' : ℕ) → PlaceWithout q k j → PlaceWithout q k' j' → k ≡ k' → j' ≡ j
@@ -65,11 +65,11 @@ same_place q k k' j j' (inr p) (inl p') is = (let a : q < k = p.0 in let b : k' 
 same_place q k k' j j' (inr p) (inr p') is = (let a : k ≡ j + 1 = p.1 in let b : k' ≡ j' + 1 = p'.1 in omega (arith, is))
 
 -- a call on another queue, by its poster at place j among the others
-module _ (s : Script) (q k j : ℕ) (post : PostData) (timing : Timing) (p p' : Sender) (made : List Entry) (parts parts' : Parts) (place : PlaceWithout q k j) (at : slice_get parts.others.items j ≡ Some p) (m : Makes p p' (plain (Post post)) [])
-    (others : parts'.others.items ≡ set parts.others.items j p') (root : parts'.root ≡ parts.root) (fired : parts'.fired.items ≡ parts.fired.items) (a : Looper) (is : IsPlayed s q made parts a) where
+module _ (s : Script) (q k j : ℕ) (post : PostData) (timing : Timing) (p p' : Sender) (made : List Entry) (parts parts' : Parts) (place : PlaceWithout q k j) (at : slice_get parts.others.items j ≡ Some p) (m : Makes p p' (bare_call (Post post)) [])
+    (others : parts'.others.items ≡ set parts.others.items j p') (root : parts'.root ≡ parts.root) (fired : parts'.fired.items ≡ parts.fired.items) (a : LooperState) (is : IsPlayed s q made parts a) where
   -- what is sent with this call more
-  sent_more : List Sent
-  sent_more = a.sent ++ record { queue = k; ask = Asks (plain (Post post)); reply = None; timing = timing } ∷ []
+  sent_more : List SentCall
+  sent_more = a.sent ++ record { queue = k; ask = Asks (bare_call (Post post)); reply = None; timing = timing } ∷ []
 
   entries_there : (k' j' : ℕ) (d : Sender) → PlaceWithout q k' j' → j' < length parts.others.items → AreFor IsSent [] (sent_on k' sent_more) (own (slice_index_or (set parts.others.items j p') j' d))
   unfolding sent_more
@@ -79,21 +79,21 @@ module _ (s : Script) (q k j : ℕ) (post : PostData) (timing : Timing) (p p' : 
       let hit : k ≡ k' → AreFor IsSent [] (sent_on k' sent_more) (own (slice_index_or (set items j p') j' d)) = λ same.
       (let here : get_or (set items j p') j' d ≡ p' = ap (λ (i : ℕ). get_or (set items j p') i d) (same_place q k k' j j' place place' same) ∙ get_or-set_same items j p' d near_j in
       let before : AreFor IsSent [] (sent_on k a.sent) (own p) = subst (λ (z : Sender). AreFor IsSent [] (sent_on k a.sent) (own z)) (get_or_from_slice_get items j p d at) (is.elsewhere k j d place near_j) in
-      let after : AreFor IsSent [] (sent_on k sent_more) (own p') = subst (λ (l : List Entry). AreFor IsSent [] (sent_on k sent_more) l) (sym m.made) (one_for k a.sent (plain (Post post)) timing (own p) m.entry m.makes before) in
+      let after : AreFor IsSent [] (sent_on k sent_more) (own p') = subst (λ (l : List Entry). AreFor IsSent [] (sent_on k sent_more) l) (sym m.made) (one_for k a.sent (bare_call (Post post)) timing (own p) m.entry m.makes before) in
       subst (λ (n : ℕ). AreFor IsSent [] (sent_on n sent_more) (own (get_or (set items j p') j' d))) same (subst (λ (z : Sender). AreFor IsSent [] (sent_on k sent_more) (own z)) (sym here) after)) in
       let miss : k ≢ k' → AreFor IsSent [] (sent_on k' sent_more) (own (slice_index_or (set items j p') j' d)) = λ apart.
       (let there : get_or (set items j p') j' d ≡ get_or items j' d = get_or-set_other items j j' p' d (λ e. places_apart q k k' j j' place place' apart (sym e)) in
-      subst (λ (z : Sender). AreFor IsSent [] (sent_on k' sent_more) (own z)) (sym there) (none_for k' k a.sent (plain (Post post)) timing (own (get_or items j' d)) apart (is.elsewhere k' j' d place' near))) in
+      subst (λ (z : Sender). AreFor IsSent [] (sent_on k' sent_more) (own z)) (sym there) (none_for k' k a.sent (bare_call (Post post)) timing (own (get_or items j' d)) apart (is.elsewhere k' j' d place' near))) in
       dite (ℕ_discrete k k') hit miss
 
-  pub called_there : IsPlayed s q made parts' (with_call k (plain (Post post)) timing a)
+  pub called_there : IsPlayed s q made parts' (with_call k (bare_call (Post post)) timing a)
   unfolding sent_more
   called_there =
       let items = parts.others.items in
       let as_many : length parts'.others.items ≡ length items = ap length others ∙ length-set items j p' in
       record {
-        shown = subst (λ (v : ViewRoot). IsShown s q made v (with_call k (plain (Post post)) timing a)) (sym root) (record {
-          calls = none_for q k a.sent (plain (Post post)) timing made (λ e. without_self q k j place (sym e)) is.shown.calls;
+        shown = subst (λ (v : ViewRoot). IsShown s q made v (with_call k (bare_call (Post post)) timing a)) (sym root) (record {
+          calls = none_for q k a.sent (bare_call (Post post)) timing made (λ e. without_self q k j place (sym e)) is.shown.calls;
           asked = is.shown.asked;
           turns = is.shown.turns;
           stands = root_sent s q (tokens_in made) a sent_more parts.root is.shown.stands;
@@ -116,7 +116,7 @@ fires_not m r n (inl (inr w)) = ap (λ (b : Bool). m.handler == r.handler && b &
 fires_not m r n (inr many) = ap (λ (b : Bool). m.handler == r.handler && m.what == r.what && b) (le-ltb n r.times many) ∙ and-false (m.handler == r.handler && m.what == r.what)
 
 -- a rule that does not fire changes nothing
-pub rule_missed : (s : Script) (now : ℕ) (m : PostData) (place : ℕ) (r : Rule) (a : Looper) → ((n : ℕ) → slice_get a.fired place ≡ Some n → fires m r n ≡ false) → rule_met s now m place r a ≡ a
+pub rule_missed : (s : Script) (now : ℕ) (m : PostData) (place : ℕ) (r : Rule) (a : LooperState) → ((n : ℕ) → slice_get a.fired place ≡ Some n → fires m r n ≡ false) → rule_met s now m place r a ≡ a
 rule_missed s now m place r a never = by_count (slice_get a.fired place) never
   where
     by_count : (o : Option ℕ) → ((n : ℕ) → o ≡ Some n → fires m r n ≡ false)
@@ -125,25 +125,25 @@ rule_missed s now m place r a never = by_count (slice_get a.fired place) never
     by_count (Some n) missed = ap (λ (b : Bool). if b then record a { fired = slice_set a.fired place (n + 1); sent = a.sent ++ reaction s now r ∷ [] } else a) (missed n refl)
 
 -- a rule that fires is counted and sends its message
-pub rule_fired : (s : Script) (now : ℕ) (m : PostData) (place : ℕ) (r : Rule) (a : Looper) (n : ℕ) → slice_get a.fired place ≡ Some n → fires m r n ≡ true
+pub rule_fired : (s : Script) (now : ℕ) (m : PostData) (place : ℕ) (r : Rule) (a : LooperState) (n : ℕ) → slice_get a.fired place ≡ Some n → fires m r n ≡ true
     → rule_met s now m place r a ≡ record a { fired = slice_set a.fired place (n + 1); sent = a.sent ++ reaction s now r ∷ [] }
 rule_fired s now m place r a n at is =
-    let met : ℕ → Looper = λ x. record a { fired = slice_set a.fired place (x + 1); sent = a.sent ++ reaction s now r ∷ [] } in
+    let met : ℕ → LooperState = λ x. record a { fired = slice_set a.fired place (x + 1); sent = a.sent ++ reaction s now r ∷ [] } in
     ap (λ (o : Option ℕ). option_map_or (λ x. if fires m r x then met x else a) o a) at ∙ ap (λ (b : Bool). if b then met n else a) is
 
 -- the rules of a list one after another, the first of which stands at this place
-abbrev pub rules_met : Script → ℕ → PostData → ℕ → List Rule → Looper → Looper
+abbrev pub rules_met : Script → ℕ → PostData → ℕ → List Rule → LooperState → LooperState
 rules_met s now m place [] a = a
 rules_met s now m place (r ∷ rs) a = rules_met s now m (place + 1) rs (rule_met s now m place r a)
 
 -- one rule more
-rules_more : (s : Script) (now : ℕ) (m : PostData) (place : ℕ) (rs : List Rule) (r : Rule) (a : Looper) → rules_met s now m place (rs ++ r ∷ []) a ≡ rule_met s now m (place + length rs) r (rules_met s now m place rs a)
+rules_more : (s : Script) (now : ℕ) (m : PostData) (place : ℕ) (rs : List Rule) (r : Rule) (a : LooperState) → rules_met s now m place (rs ++ r ∷ []) a ≡ rule_met s now m (place + length rs) r (rules_met s now m place rs a)
 rules_more s now m place [] r a = ap (λ (n : ℕ). rule_met s now m n r a) (omega arith)
 rules_more s now m place (x ∷ rs) r a =
     rules_more s now m (place + 1) rs r (rule_met s now m place x a) ∙ ap (λ (n : ℕ). rule_met s now m n r (rules_met s now m place (x ∷ rs) a)) (omega arith)
 
 -- the rules up to the next place
-pub rules_next : (s : Script) (now : ℕ) (m : PostData) (place : ℕ) (r : Rule) (a : Looper) → slice_get s.rules place ≡ Some r
+pub rules_next : (s : Script) (now : ℕ) (m : PostData) (place : ℕ) (r : Rule) (a : LooperState) → slice_get s.rules place ≡ Some r
     → rule_met s now m place r (rules_met s now m 0 (take place s.rules) a) ≡ rules_met s now m 0 (take (place + 1) s.rules) a
 rules_next s now m place r a at =
     let near : place < length s.rules = slice_get_within s.rules place r at in
@@ -152,28 +152,28 @@ rules_next s now m place r a at =
     let long : place ≡ 0 + length (take place s.rules) = omega (arith, length-take-le place s.rules few) in
     ap (λ (n : ℕ). rule_met s now m n r (rules_met s now m 0 (take place s.rules) a)) long ∙ (sym (rules_more s now m 0 (take place s.rules) r a) ∙ ap (λ (l : List Rule). rules_met s now m 0 l a) (sym taken))
 
-module _ (s : Script) (now : ℕ) (m : PostData) (a : Looper) where
+module _ (s : Script) (now : ℕ) (m : PostData) (a : LooperState) where
   -- the state with these counts and these calls
-  with_both : List ℕ → List Sent → Looper
+  with_both : List ℕ → List SentCall → LooperState
   with_both fired sent = record a { fired = fired; sent = sent }
 
   -- a rule's count once the message has met it, and what it sends then
   count_after : Rule × ℕ → ℕ
   count_after (r, n) = if fires m r n then n + 1 else n
 
-  sent_after : Rule × ℕ → Option Sent
+  sent_after : Rule × ℕ → Option SentCall
   sent_after (r, n) = if fires m r n then Some (reaction s now r) else None
 
   -- the same as a list
-  more_sent : Rule × ℕ → List Sent
+  more_sent : Rule × ℕ → List SentCall
   more_sent (r, n) = if fires m r n then reaction s now r ∷ [] else []
 
-  consed : (x : Sent) (xs : List Sent) (b : Bool) → (if b then x ∷ [] else []) ++ xs ≡ cons_option (if b then Some x else None) xs
+  consed : (x : SentCall) (xs : List SentCall) (b : Bool) → (if b then x ∷ [] else []) ++ xs ≡ cons_option (if b then Some x else None) xs
   consed x xs true = refl
   consed x xs false = refl
 
   -- one rule, whose count stands behind those of the rules before
-  one_met : (r : Rule) (n : ℕ) (ns done : List ℕ) (sent : List Sent)
+  one_met : (r : Rule) (n : ℕ) (ns done : List ℕ) (sent : List SentCall)
       → rule_met s now m (length done) r (with_both (done ++ n ∷ ns) sent) ≡ with_both ((done ++ count_after (r, n) ∷ []) ++ ns) (sent ++ more_sent (r, n))
   unfolding with_both count_after more_sent
   one_met r n ns done sent = by_test (fires m r n) refl
@@ -189,10 +189,10 @@ module _ (s : Script) (now : ℕ) (m : PostData) (a : Looper) where
           ∙ (λ i. with_both (sym (append_assoc done (n ∷ []) ns) i) (sym (append-nil sent) i))
           ∙ ap (λ (b : Bool). with_both ((done ++ (if b then n + 1 else n) ∷ []) ++ ns) (sent ++ (if b then reaction s now r ∷ [] else []))) (sym is)
 
-  rules_from : (rs : List Rule) (ns done : List ℕ) (sent : List Sent) → length ns ≡ length rs
+  rules_from : (rs : List Rule) (ns done : List ℕ) (sent : List SentCall) → length ns ≡ length rs
       → rules_met s now m (length done) rs (with_both (done ++ ns) sent) ≡ with_both (done ++ map count_after (zip rs ns)) (sent ++ filter_map sent_after (zip rs ns))
   unfolding with_both count_after sent_after more_sent
-  rules_from [] [] done sent same = ap (λ (l : List Sent). with_both (done ++ []) l) (sym (append-nil sent))
+  rules_from [] [] done sent same = ap (λ (l : List SentCall). with_both (done ++ []) l) (sym (append-nil sent))
   rules_from [] (n ∷ ns) done sent same = absurd (omega (arith, same))
   rules_from (r ∷ rs) [] done sent same = absurd (omega (arith, same))
   rules_from (r ∷ rs) (n ∷ ns) done sent same =
@@ -205,7 +205,7 @@ module _ (s : Script) (now : ℕ) (m : PostData) (a : Looper) where
       ap (rules_met s now m (length done + 1) rs) (one_met r n ns done sent)
       ∙ (ap (λ (k : ℕ). rules_met s now m k rs (with_both ((done ++ n' ∷ []) ++ ns) (sent ++ x))) long
       ∙ (rules_from rs ns (done ++ n' ∷ []) (sent ++ x) rest
-      ∙ (λ i. with_both (append_assoc done (n' ∷ []) ms i) ((append_assoc sent x fs ∙ ap (λ (l : List Sent). sent ++ l) (consed (reaction s now r) fs (fires m r n))) i))))
+      ∙ (λ i. with_both (append_assoc done (n' ∷ []) ms i) ((append_assoc sent x fs ∙ ap (λ (l : List SentCall). sent ++ l) (consed (reaction s now r) fs (fires m r n))) i))))
 
   -- all rules one after another are what every other message causes
   pub rules_are : length a.fired ≡ length s.rules → rules_met s now m 0 s.rules a ≡ reacted s now m a
@@ -215,17 +215,17 @@ module _ (s : Script) (now : ℕ) (m : PostData) (a : Looper) where
 -- ---- what the functions' clauses are put together from
 
 -- the rule's own message is one call more
-message_is : (s : Script) (now : ℕ) (r : Rule) (looper when : ℕ) (post : PostData) (a : Looper) → looper ≡ looper_of s r.to_handler → post ≡ sent_by s r.to_handler r.to_what when → when ≡ moment_after now r.delay
-    → with_call looper (plain (Post post)) (At now) a ≡ record a { sent = a.sent ++ reaction s now r ∷ [] }
+message_is : (s : Script) (now : ℕ) (r : Rule) (looper when : ℕ) (post : PostData) (a : LooperState) → looper ≡ looper_of s r.to_handler → post ≡ sent_by s r.to_handler r.to_what when → when ≡ moment_after now r.delay
+    → with_call looper (bare_call (Post post)) (At now) a ≡ record a { sent = a.sent ++ reaction s now r ∷ [] }
 message_is s now r looper when post a is_looper is_post is_when =
-    λ i. with_call (is_looper i) (plain (Post ((is_post ∙ ap (sent_by s r.to_handler r.to_what) is_when) i))) (At now) a
+    λ i. with_call (is_looper i) (bare_call (Post ((is_post ∙ ap (sent_by s r.to_handler r.to_what) is_when) i))) (At now) a
 
 -- a step of the same state in other words
-pub played_as : (s : Script) (q : ℕ) (made : List Entry) (parts : Parts) (a b : Looper) → a ≡ b → IsPlayed s q made parts a → IsPlayed s q made parts b
+pub played_as : (s : Script) (q : ℕ) (made : List Entry) (parts : Parts) (a b : LooperState) → a ≡ b → IsPlayed s q made parts a → IsPlayed s q made parts b
 played_as s q made parts a b same is = subst (IsPlayed s q made parts) same is
 
 -- the rule is counted
-counted : (s : Script) (q place n : ℕ) (made : List Entry) (parts parts' : Parts) (a : Looper) → parts'.fired.items ≡ slice_set parts.fired.items place (n + 1) → AreAllButCounts parts parts' → IsPlayed s q made parts a
+counted : (s : Script) (q place n : ℕ) (made : List Entry) (parts parts' : Parts) (a : LooperState) → parts'.fired.items ≡ slice_set parts.fired.items place (n + 1) → AreAllButCounts parts parts' → IsPlayed s q made parts a
     → IsPlayed s q made parts' (record a { fired = slice_set a.fired place (n + 1) })
 counted s q place n made parts parts' a fired same is = record {
   shown = subst (λ (v : ViewRoot). IsShown s q made v (record a { fired = slice_set a.fired place (n + 1) })) (sym same.2) (record {
@@ -260,7 +260,7 @@ plays_other s q now m place r made parts other text a is =
 
 -- the message of a rule was sent
 pub plays_sent : (s : Script) (q now : ℕ) (r : Rule) (looper when : ℕ) (post : PostData) (made made' : List Entry) (parts parts' : Parts) → looper ≡ looper_of s r.to_handler → post ≡ sent_by s r.to_handler r.to_what when → when ≡ moment_after now r.delay
-    → Plays s q (with_call looper (plain (Post post)) (At now)) made parts made' parts' → Plays s q (λ a. record a { sent = a.sent ++ reaction s now r ∷ [] }) made parts made' parts'
+    → Plays s q (with_call looper (bare_call (Post post)) (At now)) made parts made' parts' → Plays s q (λ a. record a { sent = a.sent ++ reaction s now r ∷ [] }) made parts made' parts'
 plays_sent s q now r looper when post made made' parts parts' is_looper is_post is_when plays text a is =
     played_as s q made' parts' _ _ (message_is s now r looper when post a is_looper is_post is_when) (plays text a is)
 

@@ -9,18 +9,18 @@ use Rattle.std.proofs.lemmas.Option.{slice_get_within, get_or_from_slice_get}
 use Rattle.dash_script.specs.declared.script.HandlerLine.{HandlerLine}
 use Rattle.dash_script.specs.declared.script.Rule.{Rule}
 use Rattle.dash_script.specs.declared.script.Script.{Script}
-use Rattle.dash_script.specs.Text.{handler_line, rule_line}
+use Rattle.dash_script.specs.Text.{handler_statement, rule_line}
 use Rattle.dash_script.specs.Causes.{each_number, numbers_pass, is_declared}
 use Rattle.dash_script.specs.Reading.{HasText}
 use Rattle.dash_script.proofs.Sections.{sections_pass}
 use Rattle.run_model.specs.Planned.{looper_of}
 
-looper_within : (s : Script) (h looper : ℕ) (asynchronous : Bool) → numbers_pass (is_declared s) (handler_line (h, record { looper = looper; asynchronous = asynchronous })) ≡ true → nat_lt looper s.loopers ≡ true
+looper_within : (s : Script) (h looper : ℕ) (asynchronous : Bool) → numbers_pass (is_declared s) (handler_statement (h, record { looper = looper; asynchronous = asynchronous })) ≡ true → nat_lt looper s.loopers ≡ true
 unfolding each_number
 looper_within s h looper true passes = (and_parts (nat_lt looper s.loopers) true passes).0
 looper_within s h looper false passes = (and_parts (nat_lt looper s.loopers) true passes).0
 
-loopers_within : (s : Script) (h : ℕ) (ls : List HandlerLine) → list_all (numbers_pass (is_declared s)) (map handler_line (enumerate_from h ls)) ≡ true → list_all (λ (l : HandlerLine). nat_lt l.looper s.loopers) ls ≡ true
+loopers_within : (s : Script) (h : ℕ) (ls : List HandlerLine) → list_all (numbers_pass (is_declared s)) (map handler_statement (enumerate_from h ls)) ≡ true → list_all (λ (l : HandlerLine). nat_lt l.looper s.loopers) ls ≡ true
 loopers_within s h [] all = refl
 loopers_within s h (l ∷ ls) all =
     let parts = and_parts _ _ all in

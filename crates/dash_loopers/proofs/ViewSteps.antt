@@ -15,24 +15,24 @@ use Rattle.dash_script.specs.declared.script.GaugeLine.{GaugeLine}
 use Rattle.dash_script.specs.declared.script.Script.{Script}
 use Rattle.dash_script.specs.Reading.{HasText}
 use Rattle.looper_run.specs.Holding.{Sender}
-use Rattle.choreographer.specs.Known.{Known as Pass}
-use Rattle.run_model.specs.Planned.{Ask, Makes as Asks, Unbars, plain, call_of, AreFor, looper_of, gauge_line, gauge_looper, animation_id, animation_phase}
+use Rattle.choreographer.specs.Known.{Pass}
+use Rattle.run_model.specs.Planned.{Ask, Makes as Asks, Unbars, bare_call, call_of, AreFor, looper_of, gauge_line, gauge_looper, animation_id, animation_phase}
 use Rattle.run_model.specs.Planned.{traversal_id, traversal_phase, frame_due}
 use Rattle.run_model.specs.AskedSoFar.{tokens_in}
 use Rattle.run_model.specs.Control.{At}
-use Rattle.run_model.specs.Loopers.{Looper, Gauge, Sent, and_sends, and_posts_frame, with_gauge, traversal_requested, target_set, object_set, gauge_moved}
-use Rattle.run_model.specs.Loopers.{moved, paints, traversal_ran, callback_ran, IsSent}
+use Rattle.run_model.specs.Loopers.{LooperState, GaugeState, SentCall, and_sends, and_posts_frame, with_gauge, traversal_requested, target_set, object_set, gauge_moved}
+use Rattle.run_model.specs.Loopers.{stepped_towards, paints, traversal_ran, callback_ran, IsSent}
 use Rattle.run_model.specs.Parts.{animation_ran, sent_on}
 use Rattle.run_model.proofs.RunLaws.{AreFor-snoc}
 use Rattle.message_pool.specs.Passes.{Tally}
 use Rattle.dash_hall.specs.Growth.{Makes, GoesOn}
-use Rattle.dash_hall.specs.Hosts.{PostsFrame, PlacesBy, sends_by, asks_of}
+use Rattle.dash_hall.specs.Hosts.{PostsFrame, PlacesBy, sends_by, pass_asks}
 use Rattle.run_model.specs.FrameRecords.{FrameAsk, Posts}
 use Rattle.dash_hall.proofs.FramePosts.{posts_frame_by}
 use Rattle.dash_loopers.specs.declared.view_root.Gauge.{Gauge as ViewGauge}
 use Rattle.dash_loopers.specs.declared.view_root.Painted.{Painted}
 use Rattle.dash_loopers.specs.declared.view_root.ViewRoot.{ViewRoot}
-use Rattle.dash_loopers.specs.Played.{standing, fixed, fixed_by, IsBarrierOf, paint_of, paint_of_gauge, IsRootOf, calls_of, IsShown, Shows}
+use Rattle.dash_loopers.specs.Played.{standing, gauge_fixed, fixed_by, IsBarrierOf, paint_of, paint_of_gauge, IsRootOf, calls_of, IsShown, StepsRoot}
 use Rattle.dash_loopers.proofs.LooperLists.{at_seam}
 use Rattle.dash_loopers.proofs.MoreCalls.{calls_more, calls_same, tokens_more, sent_here}
 
@@ -44,11 +44,11 @@ ok_within (Ok x) P Q R f = f
 ok_within (Err e) P Q R f = tt
 
 -- the call on the own queue that the state was to make was made
-pub sent_more : (q now : ℕ) (ask : Ask) (a : Looper) (made : List Entry) (e : Entry) → AreFor IsSent [] (sent_on q a.sent) made → plain e.call ≡ call_of (tokens_in made) ask
+pub sent_more : (q now : ℕ) (ask : Ask) (a : LooperState) (made : List Entry) (e : Entry) → AreFor IsSent [] (sent_on q a.sent) made → bare_call e.call ≡ call_of (tokens_in made) ask
     → AreFor IsSent [] (sent_on q (and_sends q now ask a).sent) (made ++ e ∷ [])
 sent_more q now ask a made e h is =
-    let x : Sent = record { queue = q; ask = ask; reply = None; timing = At now } in
-    subst (λ (l : List Sent). AreFor IsSent [] l (made ++ e ∷ [])) (sym (sent_here q a.sent x refl)) (AreFor-snoc IsSent (sent_on q a.sent) x made e h (record { call = is; reply = tt }))
+    let x : SentCall = record { queue = q; ask = ask; reply = None; timing = At now } in
+    subst (λ (l : List SentCall). AreFor IsSent [] l (made ++ e ∷ [])) (sym (sent_here q a.sent x refl)) (AreFor-snoc IsSent (sent_on q a.sent) x made e h (record { call = is; reply = tt }))
 
 length_more : (ts : List ℕ) (t n : ℕ) → n ≡ length ts → n + 1 ≡ length (ts ++ t ∷ [])
 length_more ts t n is = ap (λ (k : ℕ). k + 1) is ∙ sym (length-append ts (t ∷ []))
@@ -62,7 +62,7 @@ barrier_alike tokens None (Some t) h = absurd h
 barrier_alike tokens (Some k) None h = absurd h
 
 -- a barrier was posted
-pub barrier_posted : (s : Script) (q now : ℕ) (p p' : Sender) (token : ℕ) (root : ViewRoot) (a : Looper) → Makes p p' (Barrier 0) (token ∷ []) → IsShown s q (calls_of p) root a
+pub barrier_posted : (s : Script) (q now : ℕ) (p p' : Sender) (token : ℕ) (root : ViewRoot) (a : LooperState) → Makes p p' (Barrier 0) (token ∷ []) → IsShown s q (calls_of p) root a
     → IsShown s q (calls_of p') (record root { barrier = Some token }) (and_sends q now (Asks (Barrier 0)) (record a { barrier = Some a.barriers; barriers = a.barriers + 1 }))
 barrier_posted s q now p p' token root a m h =
     let b = record a { barrier = Some a.barriers; barriers = a.barriers + 1 } in
@@ -80,7 +80,7 @@ barrier_posted s q now p p' token root a m h =
     })
 
 -- a frame callback was posted for now
-pub frame_posted : (s : Script) (q h u phase id : ℕ) (p p' : Sender) (root : ViewRoot) (pass : Pass) (a : Looper) → PostsFrame h u phase id 0 p p' root.pass pass → IsShown s q (calls_of p) root a
+pub frame_posted : (s : Script) (q h u phase id : ℕ) (p p' : Sender) (root : ViewRoot) (pass : Pass) (a : LooperState) → PostsFrame h u phase id 0 p p' root.pass pass → IsShown s q (calls_of p) root a
     → IsShown s q (calls_of p') (record root { pass = pass }) (and_posts_frame u phase id a)
 frame_posted s q h u phase id p p' root pass a posts shown =
     subst (λ (l : List Entry). IsShown s q l (record root { pass = pass }) (and_posts_frame u phase id a)) (sym (calls_same p p' posts.calls)) (record {
@@ -95,14 +95,14 @@ frame_posted s q h u phase id p p' root pass a posts shown =
 
 -- the same by what a host's posting answers
 pub frame_placed : (s : Script) (q h h' u phase id : ℕ) (p p' : Sender) (t t' : Tally) (root : ViewRoot) (pass : Pass) → h' ≡ h → GoesOn p p' t t' → PlacesBy root.pass pass u (sends_by h p) (sends_by h' p') phase id 0
-    → Shows s q (and_posts_frame u phase id) (calls_of p) root (calls_of p') (record root { pass = pass })
+    → StepsRoot s q (and_posts_frame u phase id) (calls_of p) root (calls_of p') (record root { pass = pass })
 frame_placed s q h h' u phase id p p' t t' root pass same on placed text a shown =
     let by : PlacesBy root.pass pass u (sends_by h p) (sends_by h p') phase id 0 = subst (λ (n : ℕ). PlacesBy root.pass pass u (sends_by h p) (sends_by n p') phase id 0) same placed in
     frame_posted s q h u phase id p p' root pass a (posts_frame_by h u phase id 0 p p' t t' root.pass pass on by) shown
 
 -- a traversal is requested while none is under way
 pub requested_anew : (s : Script) (q now now' phase : ℕ) (p p' : Sender) (token : ℕ) (root : ViewRoot) (made : List Entry) (root' : ViewRoot) → is_some root.barrier ≡ false → Makes p p' (Barrier 0) (token ∷ []) → now' ≡ now → (root.edition ≡ s.edition → phase ≡ traversal_phase s)
-    → Shows s q (and_posts_frame now' phase 1000016) (calls_of p') (record root { barrier = Some token }) made root' → Shows s q (traversal_requested s q now) (calls_of p) root made root'
+    → StepsRoot s q (and_posts_frame now' phase 1000016) (calls_of p') (record root { barrier = Some token }) made root' → StepsRoot s q (traversal_requested s q now) (calls_of p) root made root'
 requested_anew s q now now' phase p p' token root made root' none m same of_edition rest text a h =
     let b = and_sends q now (Asks (Barrier 0)) (record a { barrier = Some a.barriers; barriers = a.barriers + 1 }) in
     let still : is_some a.barrier ≡ false = barrier_alike (tokens_in (calls_of p)) a.barrier root.barrier h.stands.barrier ∙ none in
@@ -116,21 +116,21 @@ of_some f None y is = absurd cc
 of_some f (Some x) y is = (let same : f x ≡ y = cc is in (x, refl, same))
 
 -- a gauge of a view root, and what the script and the state say of it
-pub record IsGaugeOf (s : Script) (q g : ℕ) (v : ViewGauge) (a : Looper) : Type 0 where
+pub record IsGaugeOf (s : Script) (q g : ℕ) (v : ViewGauge) (a : LooperState) : Type 0 where
   pub stands : slice_get a.gauges g ≡ Some (standing v)
   pub own : v.own ≡ (gauge_looper s g == q)
   pub step : v.step ≡ (gauge_line s g).step
   pub within : g < length s.gauges
 
-pub gauge_of : (s : Script) (q g : ℕ) (tokens : List ℕ) (v : ViewGauge) (root : ViewRoot) (a : Looper) → slice_get root.gauges.items g ≡ Some v → IsRootOf s q tokens a root → IsGaugeOf s q g v a
+pub gauge_of : (s : Script) (q g : ℕ) (tokens : List ℕ) (v : ViewGauge) (root : ViewRoot) (a : LooperState) → slice_get root.gauges.items g ≡ Some v → IsRootOf s q tokens a root → IsGaugeOf s q g v a
 gauge_of s q g tokens v root a at h =
     let read : slice_get (map standing root.gauges.items) g ≡ Some (standing v) = slice_get-map standing root.gauges.items g ∙ ap (option_map standing) at in
-    let kept : slice_get (map fixed root.gauges.items) g ≡ Some (fixed v) = slice_get-map fixed root.gauges.items g ∙ ap (option_map fixed) at in
-    let of_line : option_map (fixed_by s q) (slice_get s.gauges g) ≡ Some (fixed v) = sym (slice_get-map (fixed_by s q) s.gauges g) ∙ (ap (λ (l : List (Bool × ℕ)). slice_get l g) (sym h.lines) ∙ kept) in
-    let found = of_some (fixed_by s q) (slice_get s.gauges g) (fixed v) of_line in
+    let kept : slice_get (map gauge_fixed root.gauges.items) g ≡ Some (gauge_fixed v) = slice_get-map gauge_fixed root.gauges.items g ∙ ap (option_map gauge_fixed) at in
+    let of_line : option_map (fixed_by s q) (slice_get s.gauges g) ≡ Some (gauge_fixed v) = sym (slice_get-map (fixed_by s q) s.gauges g) ∙ (ap (λ (l : List (Bool × ℕ)). slice_get l g) (sym h.lines) ∙ kept) in
+    let found = of_some (fixed_by s q) (slice_get s.gauges g) (gauge_fixed v) of_line in
     let line : gauge_line s g ≡ found.0 = get_or_from_slice_get s.gauges g found.0 (record { handler = 0; step = 0 }) found.1 in
     record {
-      stands = ap (λ (l : List Gauge). slice_get l g) (sym h.gauges) ∙ read;
+      stands = ap (λ (l : List GaugeState). slice_get l g) (sym h.gauges) ∙ read;
       own = ap (λ (x : Bool × ℕ). x.0) (sym found.2) ∙ ap (λ (l : GaugeLine). looper_of s l.handler == q) (sym line);
       step = ap (λ (x : Bool × ℕ). x.1) (sym found.2) ∙ ap (λ (l : GaugeLine). l.step) (sym line);
       within = slice_get_within s.gauges g found.0 found.1;
@@ -141,16 +141,16 @@ pub record IsPut (g : ℕ) (w : ViewGauge) (root root' : ViewRoot) : Type 0 wher
   pub gauges : root'.gauges.items ≡ slice_set root.gauges.items g w
   pub same : (root'.barrier ≡ root.barrier) × (root'.pass ≡ root.pass) × (root'.painted ≡ root.painted) × (root'.edition ≡ root.edition)
 
-pub gauge_put : (s : Script) (q g : ℕ) (v w : ViewGauge) (made : List Entry) (root root' : ViewRoot) (a : Looper) → IsPut g w root root' → slice_get root.gauges.items g ≡ Some v → fixed w ≡ fixed v
+pub gauge_put : (s : Script) (q g : ℕ) (v w : ViewGauge) (made : List Entry) (root root' : ViewRoot) (a : LooperState) → IsPut g w root root' → slice_get root.gauges.items g ≡ Some v → gauge_fixed w ≡ gauge_fixed v
     → IsShown s q made root a → IsShown s q made root' (with_gauge g (standing w) a)
 gauge_put s q g v w made root root' a put at alike h = record {
   calls = h.calls;
-  asked = ap asks_of put.same.1 ∙ h.asked;
+  asked = ap pass_asks put.same.1 ∙ h.asked;
   turns = ap (λ (f : Pass). f.view.turns) put.same.1 ∙ h.turns;
   stands = record {
     edition = put.same.3 ∙ h.stands.edition;
-    gauges = ap (map standing) put.gauges ∙ (map-set standing root.gauges.items g w ∙ ap (λ (l : List Gauge). slice_set l g (standing w)) h.stands.gauges);
-    lines = ap (map fixed) put.gauges ∙ (map-set_same fixed root.gauges.items g w v (alike ∙ ap fixed (sym (get_or_from_slice_get root.gauges.items g v v at))) ∙ h.stands.lines);
+    gauges = ap (map standing) put.gauges ∙ (map-set standing root.gauges.items g w ∙ ap (λ (l : List GaugeState). slice_set l g (standing w)) h.stands.gauges);
+    lines = ap (map gauge_fixed) put.gauges ∙ (map-set_same gauge_fixed root.gauges.items g w v (alike ∙ ap gauge_fixed (sym (get_or_from_slice_get root.gauges.items g v v at))) ∙ h.stands.lines);
     barrier = subst (λ (o : Option ℕ). IsBarrierOf (tokens_in made) a.barrier o) (sym put.same.0) h.stands.barrier;
     barriers = h.stands.barriers;
     painted = ap (λ (x : Vec Painted Global). map paint_of x.items) put.same.2 ∙ h.stands.painted;
@@ -160,7 +160,7 @@ gauge_put s q g v w made root root' a put at alike h = record {
 -- ---- a message with an object
 
 -- the gauge is another looper's
-pub sets_no_other : (s : Script) (q now g target : ℕ) (v : ViewGauge) (made : List Entry) (root : ViewRoot) → slice_get root.gauges.items g ≡ Some v → v.own ≡ false → Shows s q (object_set s q now g target) made root made root
+pub sets_no_other : (s : Script) (q now g target : ℕ) (v : ViewGauge) (made : List Entry) (root : ViewRoot) → slice_get root.gauges.items g ≡ Some v → v.own ≡ false → StepsRoot s q (object_set s q now g target) made root made root
 sets_no_other s q now g target v made root at other text a h =
     let is = gauge_of s q g (tokens_in made) v root a at h.stands in
     let same : object_set s q now g target a ≡ a =
@@ -168,12 +168,12 @@ sets_no_other s q now g target v made root at other text a h =
     subst (IsShown s q made root) (sym same) h
 
 -- the state's step is that of the gauge
-sets_own : (s : Script) (q now g target : ℕ) (v : ViewGauge) (made : List Entry) (root : ViewRoot) (a : Looper) → slice_get root.gauges.items g ≡ Some v → v.own ≡ true → IsShown s q made root a
+sets_own : (s : Script) (q now g target : ℕ) (v : ViewGauge) (made : List Entry) (root : ViewRoot) (a : LooperState) → slice_get root.gauges.items g ≡ Some v → v.own ≡ true → IsShown s q made root a
     → object_set s q now g target a ≡ target_set s q now g target (standing v) a
 sets_own s q now g target v made root a at mine h =
     let is = gauge_of s q g (tokens_in made) v root a at h.stands in
     ap (λ (b : Bool). if b then option_map_or (λ x. target_set s q now g target x a) (slice_get a.gauges g) a else a) (sym is.own ∙ mine)
-    ∙ ap (λ (o : Option Gauge). option_map_or (λ x. target_set s q now g target x a) o a) is.stands
+    ∙ ap (λ (o : Option GaugeState). option_map_or (λ x. target_set s q now g target x a) o a) is.stands
 
 -- the gauge with another target, as it is put
 abbrev pub with_target : ℕ → ViewGauge → ViewGauge
@@ -189,7 +189,7 @@ starts_so false c is = ap not is
 
 -- the gauge moves already, or stands at the target
 pub sets_target : (s : Script) (q now g target : ℕ) (v : ViewGauge) (made : List Entry) (root root' : ViewRoot) → slice_get root.gauges.items g ≡ Some v → v.own ≡ true → (v.animating || (v.value == target)) ≡ true
-    → IsPut g (with_target target v) root root' → Shows s q (object_set s q now g target) made root made root'
+    → IsPut g (with_target target v) root root' → StepsRoot s q (object_set s q now g target) made root made root'
 sets_target s q now g target v made root root' at mine rests put text a h =
     let x = standing v in
     let step : object_set s q now g target a ≡ with_gauge g (record x { target = target }) a =
@@ -208,8 +208,8 @@ few g n id lt most is = omega (arith, lt, most, is)
 
 -- the gauge begins to move
 pub sets_off : (s : Script) (q now now' g target id : ℕ) (v : ViewGauge) (made made1 made2 : List Entry) (root root1 root2 root3 : ViewRoot) → slice_get root.gauges.items g ≡ Some v → v.own ≡ true → (v.animating || (v.value == target)) ≡ false
-    → IsPut g (with_target target v) root root1 → id ≡ capped g → now' ≡ now → Shows s q (and_posts_frame now 1 id) made root1 made1 root2 → Shows s q (traversal_requested s q now') made1 root2 made2 root3
-    → Shows s q (object_set s q now g target) made root made2 root3
+    → IsPut g (with_target target v) root root1 → id ≡ capped g → now' ≡ now → StepsRoot s q (and_posts_frame now 1 id) made root1 made1 root2 → StepsRoot s q (traversal_requested s q now') made1 root2 made2 root3
+    → StepsRoot s q (object_set s q now g target) made root made2 root3
 sets_off s q now now' g target id v made made1 made2 root root1 root2 root3 at mine starts put is_id same posts requests text a h =
     let x = standing v in
     let is = gauge_of s q g (tokens_in made) v root a at h.stands in
@@ -223,15 +223,15 @@ sets_off s q now now' g target id v made made1 made2 root root1 root2 root3 at m
 
 -- ---- an animation
 
-abbrev pub animated : Script → ℕ → ℕ → ℕ → Looper → Looper
+abbrev pub animated : Script → ℕ → ℕ → ℕ → LooperState → LooperState
 animated s q now g a = option_map_or (λ x. animation_ran s q now g x a) (slice_get a.gauges g) a
 
-animates : (s : Script) (q now g : ℕ) (v : ViewGauge) (made : List Entry) (root : ViewRoot) (a : Looper) → slice_get root.gauges.items g ≡ Some v → IsShown s q made root a → animated s q now g a ≡ animation_ran s q now g (standing v) a
+animates : (s : Script) (q now g : ℕ) (v : ViewGauge) (made : List Entry) (root : ViewRoot) (a : LooperState) → slice_get root.gauges.items g ≡ Some v → IsShown s q made root a → animated s q now g a ≡ animation_ran s q now g (standing v) a
 animates s q now g v made root a at h =
-    ap (λ (o : Option Gauge). option_map_or (λ x. animation_ran s q now g x a) o a) (gauge_of s q g (tokens_in made) v root a at h.stands).stands
+    ap (λ (o : Option GaugeState). option_map_or (λ x. animation_ran s q now g x a) o a) (gauge_of s q g (tokens_in made) v root a at h.stands).stands
 
 -- the gauge stands still
-pub animates_none : (s : Script) (q now g : ℕ) (v : ViewGauge) (made : List Entry) (root : ViewRoot) → slice_get root.gauges.items g ≡ Some v → v.animating ≡ false → Shows s q (animated s q now g) made root made root
+pub animates_none : (s : Script) (q now g : ℕ) (v : ViewGauge) (made : List Entry) (root : ViewRoot) → slice_get root.gauges.items g ≡ Some v → v.animating ≡ false → StepsRoot s q (animated s q now g) made root made root
 animates_none s q now g v made root at still text a h =
     let step : animated s q now g a ≡ a = animates s q now g v made root a at h ∙ ap (λ (b : Bool). if b then gauge_moved s q now g (standing v) a else a) still in
     subst (IsShown s q made root) (sym step) h
@@ -241,20 +241,20 @@ abbrev pub with_move : ℕ → ViewGauge → ViewGauge
 with_move n v = record v { value = n; animating = not (n == v.target) }
 
 -- the state's step is that of the gauge, as it moves
-moves : (s : Script) (q now g n : ℕ) (v : ViewGauge) (made : List Entry) (root : ViewRoot) (a : Looper) → slice_get root.gauges.items g ≡ Some v → v.animating ≡ true → n ≡ moved v.step v.target v.value → IsShown s q made root a
+moves : (s : Script) (q now g n : ℕ) (v : ViewGauge) (made : List Entry) (root : ViewRoot) (a : LooperState) → slice_get root.gauges.items g ≡ Some v → v.animating ≡ true → n ≡ stepped_towards v.step v.target v.value → IsShown s q made root a
     → animated s q now g a ≡ (if n == v.target then traversal_requested s q now (with_gauge g (record { value = n; target = v.target; animating = false }) a)
     else and_posts_frame now 1 (animation_id g) (traversal_requested s q now (with_gauge g (record { value = n; target = v.target; animating = v.animating }) a)))
 moves s q now g n v made root a at on to h =
     let is = gauge_of s q g (tokens_in made) v root a at h.stands in
-    let value : moved (gauge_line s g).step v.target v.value ≡ n = ap (λ (k : ℕ). moved k v.target v.value) (sym is.step) ∙ sym to in
+    let value : stepped_towards (gauge_line s g).step v.target v.value ≡ n = ap (λ (k : ℕ). stepped_towards k v.target v.value) (sym is.step) ∙ sym to in
     animates s q now g v made root a at h
     ∙ (ap (λ (b : Bool). if b then gauge_moved s q now g (standing v) a else a) on
     ∙ ap (λ (k : ℕ). if k == v.target then traversal_requested s q now (with_gauge g (record { value = k; target = v.target; animating = false }) a)
     else and_posts_frame now 1 (animation_id g) (traversal_requested s q now (with_gauge g (record { value = k; target = v.target; animating = v.animating }) a))) value)
 
 -- the gauge comes to its target
-pub animates_last : (s : Script) (q now g n : ℕ) (v : ViewGauge) (made made' : List Entry) (root root1 root' : ViewRoot) → slice_get root.gauges.items g ≡ Some v → v.animating ≡ true → n ≡ moved v.step v.target v.value → n ≡ v.target
-    → IsPut g (with_move n v) root root1 → Shows s q (traversal_requested s q now) made root1 made' root' → Shows s q (animated s q now g) made root made' root'
+pub animates_last : (s : Script) (q now g n : ℕ) (v : ViewGauge) (made made' : List Entry) (root root1 root' : ViewRoot) → slice_get root.gauges.items g ≡ Some v → v.animating ≡ true → n ≡ stepped_towards v.step v.target v.value → n ≡ v.target
+    → IsPut g (with_move n v) root root1 → StepsRoot s q (traversal_requested s q now) made root1 made' root' → StepsRoot s q (animated s q now g) made root made' root'
 animates_last s q now g n v made made' root root1 root' at on to there put requests text a h =
     let b = with_gauge g (record { value = n; target = v.target; animating = false }) a in
     let is : (n == v.target) ≡ true = eq-eqb n v.target there in
@@ -265,9 +265,9 @@ animates_last s q now g n v made made' root root1 root' at on to there put reque
     subst (IsShown s q made' root') (sym step) (requests text b placed)
 
 -- the gauge goes on
-pub animates_on : (s : Script) (q now now' g n id : ℕ) (v : ViewGauge) (made made1 made2 : List Entry) (root root1 root2 root3 : ViewRoot) → slice_get root.gauges.items g ≡ Some v → v.animating ≡ true → n ≡ moved v.step v.target v.value → n ≢ v.target
-    → IsPut g (with_move n v) root root1 → id ≡ capped g → now' ≡ now → Shows s q (traversal_requested s q now) made root1 made1 root2 → Shows s q (and_posts_frame now' 1 id) made1 root2 made2 root3
-    → Shows s q (animated s q now g) made root made2 root3
+pub animates_on : (s : Script) (q now now' g n id : ℕ) (v : ViewGauge) (made made1 made2 : List Entry) (root root1 root2 root3 : ViewRoot) → slice_get root.gauges.items g ≡ Some v → v.animating ≡ true → n ≡ stepped_towards v.step v.target v.value → n ≢ v.target
+    → IsPut g (with_move n v) root root1 → id ≡ capped g → now' ≡ now → StepsRoot s q (traversal_requested s q now) made root1 made1 root2 → StepsRoot s q (and_posts_frame now' 1 id) made1 root2 made2 root3
+    → StepsRoot s q (animated s q now g) made root made2 root3
 animates_on s q now now' g n id v made made1 made2 root root1 root2 root3 at on to far put is_id same requests posts text a h =
     let is = gauge_of s q g (tokens_in made) v root a at h.stands in
     let b = with_gauge g (record { value = n; target = v.target; animating = v.animating }) a in
@@ -282,12 +282,12 @@ animates_on s q now now' g n id v made made1 made2 root root1 root2 root3 at on 
 -- ---- a callback
 
 -- the callback of a traversal
-pub runs_traversal : (s : Script) (q now id : ℕ) (made made' : List Entry) (root root' : ViewRoot) → id ≡ 1000016 → Shows s q (traversal_ran s q now) made root made' root' → Shows s q (λ a. callback_ran s q now a id) made root made' root'
+pub runs_traversal : (s : Script) (q now id : ℕ) (made made' : List Entry) (root root' : ViewRoot) → id ≡ 1000016 → StepsRoot s q (traversal_ran s q now) made root made' root' → StepsRoot s q (λ a. callback_ran s q now a id) made root made' root'
 runs_traversal s q now id made made' root root' is shows text a h =
     subst (λ (b : Bool). IsShown s q made' root' (if b then traversal_ran s q now a else if nat_le 1000000 id then animated s q now (id - 1000000) a else a)) (sym (eq-eqb id 1000016 is)) (shows text a h)
 
 -- the callback of a gauge
-pub runs_animation : (s : Script) (q now id : ℕ) (made made' : List Entry) (root root' : ViewRoot) → id ≢ 1000016 → 1000000 ≤ id → Shows s q (animated s q now (id - 1000000)) made root made' root' → Shows s q (λ a. callback_ran s q now a id) made root made' root'
+pub runs_animation : (s : Script) (q now id : ℕ) (made made' : List Entry) (root root' : ViewRoot) → id ≢ 1000016 → 1000000 ≤ id → StepsRoot s q (animated s q now (id - 1000000)) made root made' root' → StepsRoot s q (λ a. callback_ran s q now a id) made root made' root'
 runs_animation s q now id made made' root root' isnt least shows text a h =
     subst (λ (b : Bool). IsShown s q made' root' (if b then traversal_ran s q now a else if nat_le 1000000 id then animated s q now (id - 1000000) a else a)) (sym (ne_eqb id 1000016 isnt))
     (subst (λ (b : Bool). IsShown s q made' root' (if b then animated s q now (id - 1000000) a else a)) (sym (le-leb 1000000 id least)) (shows text a h))
@@ -296,9 +296,9 @@ runs_animation s q now id made made' root root' isnt least shows text a h =
 abbrev pub unmoved : Script → ℕ → GaugeLine → ViewGauge
 unmoved s q line = record { own = looper_of s line.handler == q; step = line.step; value = 0; target = 0; animating = false }
 
-pub made_unmoved : (s : Script) (q : ℕ) (ls : List GaugeLine) → (map standing (map (unmoved s q) ls) ≡ replicate (length ls) (record { value = 0; target = 0; animating = false })) × (map fixed (map (unmoved s q) ls) ≡ map (fixed_by s q) ls)
+pub made_unmoved : (s : Script) (q : ℕ) (ls : List GaugeLine) → (map standing (map (unmoved s q) ls) ≡ replicate (length ls) (record { value = 0; target = 0; animating = false })) × (map gauge_fixed (map (unmoved s q) ls) ≡ map (fixed_by s q) ls)
 made_unmoved s q [] = (refl, refl)
-made_unmoved s q (l ∷ ls) = (let rest = made_unmoved s q ls in (ap (λ (xs : List Gauge). record { value = 0; target = 0; animating = false } ∷ xs) rest.0, ap (λ (xs : List (Bool × ℕ)). fixed_by s q l ∷ xs) rest.1))
+made_unmoved s q (l ∷ ls) = (let rest = made_unmoved s q ls in (ap (λ (xs : List GaugeState). record { value = 0; target = 0; animating = false } ∷ xs) rest.0, ap (λ (xs : List (Bool × ℕ)). fixed_by s q l ∷ xs) rest.1))
 
 pub all_unmoved : (s : Script) (q : ℕ) (ls : List GaugeLine) (i : ℕ) (read : List GaugeLine) (gs : List ViewGauge) → length read ≤ i → read ≡ ls → gs ≡ map (unmoved s q) (take i read) → gs ≡ map (unmoved s q) ls
 all_unmoved s q ls i read gs far same are = are ∙ ap (map (unmoved s q)) (take_all i read far ∙ same)
@@ -310,13 +310,13 @@ first_paint b true x xs ys same rest = (λ i. (if same i then x ∷ [] else []) 
 first_paint b false x xs ys same rest = (λ i. (if same i then x ∷ [] else []) ++ rest i)
 
 -- the gauges from the one of number n on are painted as their lines say
-paints_from : (s : Script) (q n : ℕ) (vs : List ViewGauge) (ls : List GaugeLine) → map fixed vs ≡ map (fixed_by s q) ls → ((k : ℕ) (d : GaugeLine) → k < length ls → gauge_line s (n + k) ≡ slice_index_or ls k d)
+paints_from : (s : Script) (q n : ℕ) (vs : List ViewGauge) (ls : List GaugeLine) → map gauge_fixed vs ≡ map (fixed_by s q) ls → ((k : ℕ) (d : GaugeLine) → k < length ls → gauge_line s (n + k) ≡ slice_index_or ls k d)
     → flat_map paint_of_gauge (enumerate_from n vs) ≡ filter_map (λ (g, x). if gauge_looper s g == q then Some (Paint g x.value) else None) (enumerate_from n (map standing vs))
 paints_from s q n [] ls is lines = refl
 paints_from s q n (v ∷ vs) [] is lines = absurd cc
 paints_from s q n (v ∷ vs) (l ∷ ls) is lines =
-    let first : fixed v ≡ fixed_by s q l = cc is in
-    let rest : map fixed vs ≡ map (fixed_by s q) ls = cc is in
+    let first : gauge_fixed v ≡ fixed_by s q l = cc is in
+    let rest : map gauge_fixed vs ≡ map (fixed_by s q) ls = cc is in
     let here : n + 0 ≡ n = omega arith in
     let line : gauge_line s n ≡ l = ap (gauge_line s) (sym here) ∙ lines 0 l (omega arith) in
     let mine : v.own ≡ (gauge_looper s n == q) = ap (λ (x : Bool × ℕ). x.0) first ∙ ap (λ (x : GaugeLine). looper_of s x.handler == q) (sym line) in
@@ -325,10 +325,10 @@ paints_from s q n (v ∷ vs) (l ∷ ls) is lines =
     ap (gauge_line s) next ∙ lines (suc k) d (omega (arith, lt)))))
 
 -- a view root has as many gauges as the script
-pub as_many : (s : Script) (q : ℕ) (vs : List ViewGauge) → map fixed vs ≡ map (fixed_by s q) s.gauges → length vs ≡ length s.gauges
-as_many s q vs is = sym (length-map vs fixed) ∙ (ap length is ∙ length-map s.gauges (fixed_by s q))
+pub as_many : (s : Script) (q : ℕ) (vs : List ViewGauge) → map gauge_fixed vs ≡ map (fixed_by s q) s.gauges → length vs ≡ length s.gauges
+as_many s q vs is = sym (length-map vs gauge_fixed) ∙ (ap length is ∙ length-map s.gauges (fixed_by s q))
 
-pub painted_so : (s : Script) (q : ℕ) (vs : List ViewGauge) → map fixed vs ≡ map (fixed_by s q) s.gauges → flat_map paint_of_gauge (enumerate_from 0 vs) ≡ paints s q (map standing vs)
+pub painted_so : (s : Script) (q : ℕ) (vs : List ViewGauge) → map gauge_fixed vs ≡ map (fixed_by s q) s.gauges → flat_map paint_of_gauge (enumerate_from 0 vs) ≡ paints s q (map standing vs)
 painted_so s q vs is = paints_from s q 0 vs s.gauges is (λ k d lt. (
     let zero_plus : 0 + k ≡ k = omega arith in
     ap (gauge_line s) zero_plus ∙ get_or_default s.gauges k (record { handler = 0; step = 0 }) d lt))
@@ -365,8 +365,8 @@ pub record HasPainted (root root' : ViewRoot) : Type 0 where
   pub edition : root'.edition ≡ root.edition
 
 pub traverses : (s : Script) (q now : ℕ) (p p' : Sender) (token : ℕ) (root root' : ViewRoot) → root.barrier ≡ Some token → Makes p p' (Unbarrier token) [] → HasPainted root root'
-    → (HasText s → map fixed root.gauges.items ≡ map (fixed_by s q) s.gauges → map paint_of root'.painted.items ≡ map paint_of root.painted.items ++ paints s q (map standing root.gauges.items))
-    → Shows s q (traversal_ran s q now) (calls_of p) root (calls_of p') root'
+    → (HasText s → map gauge_fixed root.gauges.items ≡ map (fixed_by s q) s.gauges → map paint_of root'.painted.items ≡ map paint_of root.painted.items ++ paints s q (map standing root.gauges.items))
+    → StepsRoot s q (traversal_ran s q now) (calls_of p) root (calls_of p') root'
 traverses s q now p p' token root root' has m left told text a h =
     let made = calls_of p in
     let before = tokens_in made in
@@ -374,18 +374,18 @@ traverses s q now p p' token root root' has m left told text a h =
     let k = under.0 in
     let b = record a { barrier = None; painted = a.painted ++ paints s q a.gauges } in
     let tokens : tokens_in (made ++ m.entry ∷ []) ≡ before = tokens_more made m.entry [] m.answered ∙ append-nil before in
-    let call : plain m.entry.call ≡ Unbarrier (slice_index before k) = m.makes ∙ ap Unbarrier (sym (get_or_from_slice_get before k token 0 under.2)) in
+    let call : bare_call m.entry.call ≡ Unbarrier (slice_index before k) = m.makes ∙ ap Unbarrier (sym (get_or_from_slice_get before k token 0 under.2)) in
     let made_is : calls_of p' ≡ made ++ m.entry ∷ [] = calls_more p p' (Unbarrier token) [] refl m in
     let step : traversal_ran s q now a ≡ and_sends q now (Unbars k) b = ap (λ (o : Option ℕ). option_map_or (λ j. and_sends q now (Unbars j) b) o a) under.1 in
     let painted : map paint_of root'.painted.items ≡ a.painted ++ paints s q a.gauges = told text h.stands.lines ∙ (λ i. h.stands.painted i ++ paints s q (h.stands.gauges i)) in
     let shown : IsShown s q (made ++ m.entry ∷ []) root' (and_sends q now (Unbars k) b) = record {
       calls = sent_more q now (Unbars k) b made m.entry h.calls call;
-      asked = ap asks_of left.pass ∙ h.asked;
+      asked = ap pass_asks left.pass ∙ h.asked;
       turns = ap (λ (f : Pass). f.view.turns) left.pass ∙ h.turns;
       stands = record {
         edition = left.edition ∙ h.stands.edition;
         gauges = ap (λ (x : Vec ViewGauge Global). map standing x.items) left.gauges ∙ h.stands.gauges;
-        lines = ap (λ (x : Vec ViewGauge Global). map fixed x.items) left.gauges ∙ h.stands.lines;
+        lines = ap (λ (x : Vec ViewGauge Global). map gauge_fixed x.items) left.gauges ∙ h.stands.lines;
         barrier = subst (IsBarrierOf (tokens_in (made ++ m.entry ∷ [])) None) (sym left.barrier) tt;
         barriers = h.stands.barriers ∙ ap length (sym tokens);
         painted = painted;

@@ -76,6 +76,6 @@ pub record IsPlayingAt (m : Mode) (s : Script) (q : ℕ) (began : StageLooper) (
 abbrev pub AreByClockOf : Mode → StageLooper → Type 0
 AreByClockOf m l = (q : ℕ) (d : Sender) → q < length (posters_of l) → IsByClock m (slice_index_or (posters_of l) q d)
 
--- it stays so, unless memory was wanting
+-- it stays so, unless memory ran out
 abbrev pub StaysByClock : Mode → StageLooper → StageLooper → Type 0
 StaysByClock m before after = is_given_up after.last ≡ false → AreByClockOf m before → AreByClockOf m after

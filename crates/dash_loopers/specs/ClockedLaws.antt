@@ -11,7 +11,7 @@ use Rattle.loop_model.specs.Entries.{is_next}
 use Rattle.loop_model.specs.Base.{empty_base}
 use Rattle.loop_model.specs.Answers.{clock}
 use Rattle.dash_script.specs.declared.script.Script.{Script}
-use Rattle.looper_run.specs.Acts.{IsQuiet}
+use Rattle.looper_run.specs.Acts.{IsQuietAct}
 use Rattle.run_model.specs.Moments.{Mode, IsOfClock}
 use Rattle.dash_hall.proofs.Clocking.{unless, clock_more}
 use Rattle.dash_loopers.specs.declared.player.Parts.{Parts}
@@ -56,6 +56,6 @@ module _ (m : Mode) (s : Script) (q : ℕ) (began : StageLooper) where
   }
 
   -- an idle handler ran, or a listener was told of an event
-  pub playing_at_quiet : (k : ℕ) (es : List Entry) (x : Act) (acts : List Act) (parts : Parts) → IsQuiet x → IsPlayingAt m s q began k es acts parts
+  pub playing_at_quiet : (k : ℕ) (es : List Entry) (x : Act) (acts : List Act) (parts : Parts) → IsQuietAct x → IsPlayingAt m s q began k es acts parts
       → IsPlayingAt m s q began k es (acts ++ x ∷ []) parts
   playing_at_quiet k es x acts parts is at = record { plays = playing_by_quiet s q began k es x acts parts is at.plays; calls = at.calls; others = at.others }

@@ -31,7 +31,7 @@ pub record GoesOnFrom (before after : Looping) : Type 0 where
   pub seen : IsPrefix before.held.poster.view.seen after.held.poster.view.seen
   pub acts : IsPrefix before.held.journal.acts after.held.journal.acts
 
--- so it is unless memory was wanting
+-- so it is unless memory ran out
 abbrev pub StaysTold : StageLooper → StageLooper → Type 0
 StaysTold before after = is_given_up after.last ≡ false → GoesOnFrom before.looper after.looper
 
@@ -44,8 +44,8 @@ pub record HasLooped (m : Mode) (s : Script) (hall : Hall) (before after : Stage
   pub grew : StaysTold before after
 
 -- the looper with these parts, behind a round that ended so
-abbrev pub with_parts : StageLooper → Round → Parts → StageLooper
-with_parts l last parts = record { number = l.number; sender = l.sender; looper = l.looper; parts = Some parts; last = last }
+abbrev pub looper_with_parts : StageLooper → Round → Parts → StageLooper
+looper_with_parts l last parts = record { number = l.number; sender = l.sender; looper = l.looper; parts = Some parts; last = last }
 
 -- whose code a loop runs which begins with this looper
 abbrev pub owner_of : Mode → Script → Hall → StageLooper → ClockOwner
@@ -98,37 +98,37 @@ pub record LooksForPulse (before after : Parts) (pulse : Option ℕ) : Type 0 wh
   pub rest : after ≡ record before { frames = after.frames }
 
 -- the same of a looper by its parts, which it has between two loops
-abbrev pub AsksPulse : StageLooper → StageLooper → Option ℕ → Type 0
-AsksPulse before after pulse = IsSomeAnd before.parts (λ p. IsSomeAnd after.parts (λ r. LooksForPulse p r pulse))
+abbrev pub LooperAsksPulse : StageLooper → StageLooper → Option ℕ → Type 0
+LooperAsksPulse before after pulse = IsSomeAnd before.parts (λ p. IsSomeAnd after.parts (λ r. LooksForPulse p r pulse))
 
 -- the looper looped by the clock up to this cap
-abbrev pub LoopsBy : Mode → Script → Option ℕ → StageLooper → StageLooper → Loop → Type 0
-LoopsBy m s cap before after how = LoopBy m.shows m.start cap (setting_in false s before.number) before.looper.held after.looper.held how
+abbrev pub LoopsUpToCap : Mode → Script → Option ℕ → StageLooper → StageLooper → Loop → Type 0
+LoopsUpToCap m s cap before after how = LoopBy m.shows m.start cap (setting_in false s before.number) before.looper.held after.looper.held how
 
 -- it had neither ended nor given up; it looked for its pulse, and then looped up to that or up to the end, whichever is earlier
-pub record LoopsOnce (m : Mode) (s : Script) (end : Option ℕ) (before after : StageLooper) (how : Loop) : Type 0 where
+pub record LoopsToPulse (m : Mode) (s : Script) (end : Option ℕ) (before after : StageLooper) (how : Loop) : Type 0 where
   pub going : (is_ended before.last || is_given_up before.last) ≡ false
   pub asked : StageLooper
   pub pulse : Option ℕ
-  pub looks : AsksPulse before asked pulse
-  pub loops : LoopsBy m s (earlier_of pulse end) before after how
+  pub looks : LooperAsksPulse before asked pulse
+  pub loops : LoopsUpToCap m s (earlier_of pulse end) before after how
   pub last : after.last ≡ round_of how
 
 -- so many loops, one after another, none of which came to the end
 abbrev pub HasGoneRound : Mode → Script → Option ℕ → ℕ → StageLooper → StageLooper → Type 0
 HasGoneRound m s end zero before after = after ≡ before
 HasGoneRound m s end (suc n) before after =
-    (between : StageLooper) × HasGoneRound m s end n before between × (how : Loop) × LoopsOnce m s end between after how × (ends_at how end ≡ false)
+    (between : StageLooper) × HasGoneRound m s end n before between × (how : Loop) × LoopsToPulse m s end between after how × (ends_at how end ≡ false)
 
 -- why it loops no further: a look found the run given up; or it has ended or given up itself, or its last loop came to the end with nothing due
 abbrev pub StopsBy : Mode → Script → Option ℕ → StageLooper → StageLooper → Option Bool → Type 0
 StopsBy m s end between after (Some look) = (look ≡ true) × ((is_ended between.last || is_given_up between.last) ≡ false) × (after ≡ between)
 StopsBy m s end between after None =
     (((is_ended between.last || is_given_up between.last) ≡ true) × (after ≡ between))
-    ⊎ ((how : Loop) × LoopsOnce m s end between after how × (ends_at how end ≡ true))
+    ⊎ ((how : Loop) × LoopsToPulse m s end between after how × (ends_at how end ≡ true))
 
 -- loops, one after another, until it stopped; the look is there where it found the run given up
-pub record LoopsUpTo (m : Mode) (s : Script) (end : Option ℕ) (before after : StageLooper) (look : Option Bool) : Type 0 where
+pub record LoopsUntilStopped (m : Mode) (s : Script) (end : Option ℕ) (before after : StageLooper) (look : Option Bool) : Type 0 where
   pub count : ℕ
   pub between : StageLooper
   pub rounds : HasGoneRound m s end count before between

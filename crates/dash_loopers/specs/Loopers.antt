@@ -15,7 +15,7 @@ use Rattle.looper_run.specs.Holding.{Workplace, workplace, Sender, IsBeside}
 use Rattle.looper_run.specs.Round.{RoundBy, is_ended}
 use Rattle.looper_run.specs.Asked.{any_heard}
 use Rattle.looper_run.specs.Looks.{IsRound}
-use Rattle.looper_run.specs.Acts.{taken_by}
+use Rattle.looper_run.specs.Acts.{taken_messages}
 use Rattle.loop_model.specs.Dispatches.{dispatches}
 use Rattle.loop_model.specs.declared.journal.Journal.{Journal}
 use Rattle.dash_hall.specs.declared.kit.Kit.{Kit}
@@ -24,7 +24,7 @@ use Rattle.looper_run.specs.declared.looper.Round.{Round}
 use Rattle.looper_run.specs.declared.looper.Round.TheVariants as round
 use Rattle.looper_run.specs.declared.by_clock.Loop.{Loop}
 use Rattle.looper_run.specs.declared.by_clock.Loop.TheVariants as loop
-use Rattle.choreographer.specs.Known.{Shared as Frames, Known as Pass, IfAlone}
+use Rattle.choreographer.specs.Known.{SharedFrames, Pass, IfAlone}
 use Rattle.dash_hall.specs.declared.hall.Hall.{Hall}
 use Rattle.dash_loopers.specs.declared.player.Parts.{Parts}
 use Rattle.dash_loopers.specs.declared.looper.StageLooper.{StageLooper}
@@ -44,8 +44,8 @@ MayAwait parts = parts.awaits ≡ true → IfAlone parts.frames (parts.frames.vi
 -- what a looper has beside its own poster: the posters of the other queues in order, and two passes of its choreographer
 pub record ArePartsOf (s : Script) (hall : Hall) (number : ℕ) (parts : Parts) : Type 0 where
   pub others : map badge_of parts.others.items ≡ remove (map (badge_for (s.threads + number)) hall.queues.items) number
-  pub frames : (c : Frames) → slice_get hall.choreographers.items number ≡ Some c → frame_badge_of parts.frames ≡ frame_badge_for s.threads c
-  pub client : (c : Frames) → slice_get hall.choreographers.items number ≡ Some c → frame_badge_of parts.root.pass ≡ frame_badge_for (s.threads + 1) c
+  pub frames : (c : SharedFrames) → slice_get hall.choreographers.items number ≡ Some c → frame_badge_of parts.frames ≡ frame_badge_for s.threads c
+  pub client : (c : SharedFrames) → slice_get hall.choreographers.items number ≡ Some c → frame_badge_of parts.root.pass ≡ frame_badge_for (s.threads + 1) c
   pub awaits : MayAwait parts
 
 -- the workplace is the queue of this looper, and the pool of the hall
@@ -112,8 +112,8 @@ pub record IsLooper (s : Script) (hall : Hall) (l : StageLooper) : Type 0 where
   pub own : l.looper.held.poster.sender ≡ l.sender
   pub journal : l.looper.held.journal.looper ≡ l.number
   pub ended : l.looper.ended ≡ is_ended l.last
-  -- unless memory was wanting, its Dispatch acts are, one for one and in order, the messages that it took
-  pub told : is_given_up l.last ≡ false → dispatches l.looper.held.journal.acts ≡ taken_by l.sender l.looper.held.poster.view.seen
+  -- unless memory ran out, its Dispatch acts are, one for one and in order, the messages that it took
+  pub told : is_given_up l.last ≡ false → dispatches l.looper.held.journal.acts ≡ taken_messages l.sender l.looper.held.poster.view.seen
   -- a round that ended it has seen its queue over
   pub over : is_ended l.last ≡ true → is_over (empty_base (sender_count s)) l.looper.held.poster.view.seen ≡ true
   -- it disposes of its queue by its last call, if at all
@@ -138,12 +138,12 @@ pub record RunsRound (lockstep : Bool) (s : Script) (now : ℕ) (before after : 
   pub looks : (is_ended before.last || is_given_up before.last) ≡ false → IsRound any_heard now before.looper after.looper after.last
 
 -- so it is in lockstep
-abbrev pub HasRun : Script → ℕ → StageLooper → StageLooper → Type 0
-HasRun s now before after = RunsRound true s now before after
+abbrev pub HasRunLockstep : Script → ℕ → StageLooper → StageLooper → Type 0
+HasRunLockstep s now before after = RunsRound true s now before after
 
 -- the Dispatch acts in the journal are, one for one and in order, the messages that this looper's own poster took
 abbrev pub HasTold : Script → ℕ → Journal → Kit → Type 0
-HasTold s number j kit = (d : Sender) → dispatches j.acts ≡ taken_by (s.threads + number) (slice_index_or kit.posters.items number d).view.seen
+HasTold s number j kit = (d : Sender) → dispatches j.acts ≡ taken_messages (s.threads + number) (slice_index_or kit.posters.items number d).view.seen
 
 -- of this looper's own calls on its queue, none disposed of it, or the last one alone did
 abbrev pub HasDisposedLast : Script → ℕ → Kit → Type 0
@@ -163,7 +163,7 @@ abbrev pub posters_of : StageLooper → List Sender
 posters_of l = insert (others_in l.parts) l.number l.looper.held.poster
 
 -- what a looper has beside its posters, its pass of the pool and its journal
-pub record Rest : Type 0 where
+pub record LooperRest : Type 0 where
   pub frames : Pass
   pub root : ViewRoot
   pub fired : List ℕ
@@ -171,12 +171,12 @@ pub record Rest : Type 0 where
   pub awaits : Bool
 
 -- the same, where it is there
-abbrev pub rest_in : Option Parts → Option Rest
+abbrev pub rest_in : Option Parts → Option LooperRest
 rest_in None = None
 rest_in (Some parts) = Some (record { frames = parts.frames; root = parts.root; fired = parts.fired.items; passed = parts.passed; awaits = parts.awaits })
 
 -- the two passes heard others, or are as before, and the rest is as before
-pub record RestHasHeard (before after : Rest) : Type 0 where
+pub record RestHasHeard (before after : LooperRest) : Type 0 where
   pub frames : PassHasHeard before.frames after.frames
   pub client : PassHasHeard before.root.pass after.root.pass
   pub root : after.root ≡ record before.root { pass = after.root.pass }
@@ -185,8 +185,8 @@ pub record RestHasHeard (before after : Rest) : Type 0 where
   pub awaits : after.awaits ≡ before.awaits
 
 -- so it is, where the rest is there
-abbrev pub MayHaveHeard : Option Rest → Option Rest → Type 0
-MayHaveHeard before after = (r : Rest) → before ≡ Some r → (r' : Rest) × (after ≡ Some r') × RestHasHeard r r'
+abbrev pub MayHaveHeard : Option LooperRest → Option LooperRest → Type 0
+MayHaveHeard before after = (r : LooperRest) → before ≡ Some r → (r' : LooperRest) × (after ≡ Some r') × RestHasHeard r r'
 
 -- a looper's posters before and after are so, its passes of its choreographer are as before or heard others, and all else of it is as before
 pub record LooperKeeps (R : List Sender → List Sender → Type 0) (before after : StageLooper) : Type 0 where
@@ -199,7 +199,7 @@ pub record LooperKeeps (R : List Sender → List Sender → Type 0) (before afte
 
 -- this holds of the looper's two passes of its choreographer
 abbrev pub OfItsPasses : (Pass → Type 0) → StageLooper → Type 0
-OfItsPasses P l = (r : Rest) → rest_in l.parts ≡ Some r → P r.frames × P r.root.pass
+OfItsPasses P l = (r : LooperRest) → rest_in l.parts ≡ Some r → P r.frames × P r.root.pass
 
 -- the looper let another pass hear: its own are as they were
 abbrev pub TellsPasses : StageLooper → StageLooper → Type 0
@@ -238,16 +238,16 @@ WaitsAt s moment before after =
     × HasNoneDue (empty_base (sender_count s)) after.looper.held.poster.view.seen moment
 
 -- the time of the looper's queue, by all that it has seen
-abbrev pub time_of : Script → StageLooper → ℕ
-time_of s l = clock (empty_base (sender_count s)) l.looper.held.poster.view.seen
+abbrev pub looper_time : Script → StageLooper → ℕ
+looper_time s l = clock (empty_base (sender_count s)) l.looper.held.poster.view.seen
 
 -- unless it ended or gave up, the looper has come to wait so at its queue's time
 abbrev pub ComesToWait : Script → StageLooper → StageLooper → Type 0
-ComesToWait s before after = is_ended after.last ≡ false → is_given_up after.last ≡ false → WaitsAt s (time_of s after) before after
+ComesToWait s before after = is_ended after.last ≡ false → is_given_up after.last ≡ false → WaitsAt s (looper_time s after) before after
 
 -- the same by a clock, at this moment or at the queue's time, whichever is later
 abbrev pub ComesToWaitAt : Script → ℕ → StageLooper → StageLooper → Type 0
-ComesToWaitAt s now before after = is_ended after.last ≡ false → is_given_up after.last ≡ false → WaitsAt s (max now (time_of s after)) before after
+ComesToWaitAt s now before after = is_ended after.last ≡ false → is_given_up after.last ≡ false → WaitsAt s (max now (looper_time s after)) before after
 
 -- one round by a clock at this moment, up to where the looper waits
 pub record DrainsAt (s : Script) (now : ℕ) (before after : StageLooper) : Type 0 where

@@ -25,16 +25,17 @@ use Rattle.dash_script.specs.Causes.{phase_count}
 use Rattle.dash_script.specs.Reading.{HasText}
 use Rattle.looper_run.specs.Holding.{Sender}
 use Rattle.choreographer.specs.declared.view.Constants.{Constants}
-use Rattle.choreographer.specs.Known.{Known as Pass, SeesQuietly}
+use Rattle.choreographer.specs.Known.{Pass, SeesQuietly}
 use Rattle.choreographer.specs.Turn.{has_later}
-use Rattle.choreographer.specs.Calls.{latest}
+use Rattle.choreographer.specs.Calls.{latest_stamp}
 use Rattle.choreographer.specs.declared.host.HostSent.TheVariants as host
 use Rattle.choreographer.specs.declared.hosted.Pulse.{Pulse}
 use Rattle.choreographer.specs.Client.{Run}
 use Rattle.run_model.specs.Planned.{Makes, AreFor, entries_by, looper_of, frame_message, frame_due, sender_count}
 use Rattle.run_model.specs.AskedSoFar.{tokens_in}
 use Rattle.run_model.specs.Control.{Timing, At, InBlock, NotBefore}
-use Rattle.run_model.specs.Loopers.{Looper, Sent, first_looper, starts_frame, delivered, fires, reaction, Lead, IsSent, pulse_stamp, has_frames, Gauge}
+use Rattle.run_model.specs.Loopers.{LooperState, SentCall, first_looper, starts_frame, after_dispatch, fires, reaction, ActsLead, IsSent, pulse_stamp}
+use Rattle.run_model.specs.Loopers.{has_frames, GaugeState}
 use Rattle.run_model.specs.Parts.{sent_on, asks_to_run}
 use Rattle.run_model.specs.FrameRecords.{millis_up, FrameAt, frame_ids, is_frame_from, has_stamp, frame_moments, place_after, are_run_then, are_whole}
 use Rattle.run_model.specs.FrameRecords.{FrameAsk, Posts, Removes, Runs, as_told}
@@ -46,7 +47,7 @@ use Rattle.dash_loopers.specs.declared.view_root.ViewRoot.{ViewRoot}
 use Rattle.dash_loopers.specs.declared.player.Parts.{Parts}
 use Rattle.dash_loopers.specs.declared.looper.StageLooper.{StageLooper}
 use Rattle.dash_hall.specs.Growth.{own}
-use Rattle.dash_hall.specs.Hosts.{asks_of}
+use Rattle.dash_hall.specs.Hosts.{pass_asks}
 use Rattle.dash_loopers.specs.Players.{PlaceWithout}
 use Rattle.dash_loopers.specs.Loopers.{is_given_up, calls_among, IsSoundOn}
 pub use Rattle.dash_loopers.specs.Loopers.{is_disposal}
@@ -54,12 +55,12 @@ pub use Rattle.dash_loopers.specs.Loopers.{is_disposal}
 -- ---- how a view root stands
 
 -- a gauge as it stands
-abbrev pub standing : ViewGauge → Gauge
+abbrev pub standing : ViewGauge → GaugeState
 standing g = record { value = g.value; target = g.target; animating = g.animating }
 
 -- what stays the same in a gauge: whether it is the looper's own, and its step
-abbrev pub fixed : ViewGauge → Bool × ℕ
-fixed g = (g.own, g.step)
+abbrev pub gauge_fixed : ViewGauge → Bool × ℕ
+gauge_fixed g = (g.own, g.step)
 
 -- the same, by the gauge's line
 abbrev pub fixed_by : Script → ℕ → GaugeLine → Bool × ℕ
@@ -80,10 +81,10 @@ abbrev pub paint_of_gauge : ℕ × ViewGauge → List Act
 paint_of_gauge (g, v) = if v.own then Paint g v.value ∷ [] else []
 
 -- the view root of looper q stands as the state says, where the looper's barriers were answered these tokens
-pub record IsRootOf (s : Script) (q : ℕ) (tokens : List ℕ) (a : Looper) (root : ViewRoot) : Type 0 where
+pub record IsRootOf (s : Script) (q : ℕ) (tokens : List ℕ) (a : LooperState) (root : ViewRoot) : Type 0 where
   pub edition : root.edition ≡ s.edition
   pub gauges : map standing root.gauges.items ≡ a.gauges
-  pub lines : map fixed root.gauges.items ≡ map (fixed_by s q) s.gauges
+  pub lines : map gauge_fixed root.gauges.items ≡ map (fixed_by s q) s.gauges
   pub barrier : IsBarrierOf tokens a.barrier root.barrier
   pub barriers : a.barriers ≡ length tokens
   pub painted : map paint_of root.painted.items ≡ a.painted
@@ -100,31 +101,31 @@ calls_of p = calls_in p.sender p.view.seen
 
 -- the looper made these entries on its own queue, its view root's pass asked for the frame callbacks that the state posts, in order and for nothing else, by
 -- one turn for each and no other, and its view root stands as the state says
-pub record IsShown (s : Script) (q : ℕ) (made : List Entry) (root : ViewRoot) (a : Looper) : Type 0 where
+pub record IsShown (s : Script) (q : ℕ) (made : List Entry) (root : ViewRoot) (a : LooperState) : Type 0 where
   pub calls : AreFor IsSent [] (sent_on q a.sent) made
-  pub asked : asks_of root.pass ≡ a.posted
+  pub asked : pass_asks root.pass ≡ a.posted
   pub turns : root.pass.view.turns ≡ length a.posted
   pub stands : IsRootOf s q (tokens_in made) a root
 
 -- on each other queue the calls that the state tells were made; the posters of the others stand in order
-abbrev pub AreMadeElsewhere : ℕ → List Sender → Looper → Type 0
+abbrev pub AreMadeElsewhere : ℕ → List Sender → LooperState → Type 0
 AreMadeElsewhere q others a =
     (k j : ℕ) (d : Sender) → PlaceWithout q k j → j < length others → AreFor IsSent [] (sent_on k a.sent) (own (slice_index_or others j d))
 
 -- all that the state says is so, of the looper's own queue, of the others, and of its rule counts, of which there are as many as rules
-pub record IsPlayed (s : Script) (q : ℕ) (made : List Entry) (parts : Parts) (a : Looper) : Type 0 where
+pub record IsPlayed (s : Script) (q : ℕ) (made : List Entry) (parts : Parts) (a : LooperState) : Type 0 where
   pub shown : IsShown s q made parts.root a
   pub elsewhere : AreMadeElsewhere q parts.others.items a
   pub fired : parts.fired.items ≡ a.fired
   pub counts : length parts.fired.items ≡ length s.rules
 
 -- a step of the view root: whatever state it stood at, it stands now at what the step makes of that
-abbrev pub Shows : Script → ℕ → (Looper → Looper) → List Entry → ViewRoot → List Entry → ViewRoot → Type 0
-Shows s q step made root made' root' = HasText s → (a : Looper) → IsShown s q made root a → IsShown s q made' root' (step a)
+abbrev pub StepsRoot : Script → ℕ → (LooperState → LooperState) → List Entry → ViewRoot → List Entry → ViewRoot → Type 0
+StepsRoot s q step made root made' root' = HasText s → (a : LooperState) → IsShown s q made root a → IsShown s q made' root' (step a)
 
 -- the same of all that a looper has
-abbrev pub Plays : Script → ℕ → (Looper → Looper) → List Entry → Parts → List Entry → Parts → Type 0
-Plays s q step made parts made' parts' = HasText s → (a : Looper) → IsPlayed s q made parts a → IsPlayed s q made' parts' (step a)
+abbrev pub Plays : Script → ℕ → (LooperState → LooperState) → List Entry → Parts → List Entry → Parts → Type 0
+Plays s q step made parts made' parts' = HasText s → (a : LooperState) → IsPlayed s q made parts a → IsPlayed s q made' parts' (step a)
 
 -- all but the rule counts is as before
 abbrev pub AreAllButCounts : Parts → Parts → Type 0
@@ -145,11 +146,11 @@ abbrev pub ids_of : List Run → List ℕ
 ids_of runs = map (λ r. r.0.id) runs
 
 -- one call more
-abbrev pub with_call : ℕ → Call → Timing → Looper → Looper
+abbrev pub with_call : ℕ → Call → Timing → LooperState → LooperState
 with_call queue call timing a = record a { sent = a.sent ++ record { queue = queue; ask = Makes call; reply = None; timing = timing } ∷ [] }
 
 -- the rule at this place, where it fires at the message: it is counted and its own message is sent
-abbrev pub rule_met : Script → ℕ → PostData → ℕ → Rule → Looper → Looper
+abbrev pub rule_met : Script → ℕ → PostData → ℕ → Rule → LooperState → LooperState
 rule_met s now m place r a =
     option_map_or (λ n. if fires m r n then record a { fired = slice_set a.fired place (n + 1); sent = a.sent ++ reaction s now r ∷ [] } else a)
     (slice_get a.fired place) a
@@ -174,7 +175,7 @@ KeepsLatest before after = (stamp : ℕ) (awaits : Bool) → HasLatest before st
 
 -- or the latest is now the one that came, where one came, and its frame is to begin
 abbrev pub GetsLatest : Pass → Pass → Option ℕ → Type 0
-GetsLatest before after came = (stamp : ℕ) (awaits : Bool) → HasLatest before stamp awaits → HasLatest after (latest came stamp) (is_some came || awaits)
+GetsLatest before after came = (stamp : ℕ) (awaits : Bool) → HasLatest before stamp awaits → HasLatest after (latest_stamp came stamp) (is_some came || awaits)
 
 -- whatever the latest pulse was, where its frame was to begin it is to begin no more
 abbrev pub EndsLatest : Pass → Pass → Type 0
@@ -230,12 +231,12 @@ pub record RanFrame (interval phases : ℕ) (is_moment : ℕ → Bool) (before a
   pub started : (is_none frame || is_moment start) ≡ true
   pub within : place_after 0 frame ≤ length after.view.seen
   pub grew : IsPrefix before.view.seen after.view.seen
-  pub asks : asks_of after ≡ asks_of before ++ asks_for frame start
+  pub asks : pass_asks after ≡ pass_asks before ++ asks_for frame start
   pub stamped : (stamp : ℕ) (awaits : Bool) → HasLatest before stamp awaits → IsStampedBy after frame stamp
   pub in_time : RunsInTime is_moment before after frame
 
 -- where the message starts a frame, no frame of a pulse is to begin any more; else all is as before
-pub record WaitsFor (q : ℕ) (m : PostData) (parts parts' : Parts) : Type 0 where
+pub record AwaitsBehind (q : ℕ) (m : PostData) (parts parts' : Parts) : Type 0 where
   pub waits : parts'.awaits ≡ (parts.awaits && not (starts_frame q m))
   pub latest : (stamp : ℕ) → HasLatest parts.frames stamp parts.awaits → HasLatest parts'.frames stamp parts'.awaits
 
@@ -247,9 +248,9 @@ pub record Delivers (s : Script) (q now : ℕ) (is_moment : ℕ → Bool) (m : P
   pub ran : RanFrame s.period (phase_count s.edition) is_moment parts.frames parts'.frames ids
   pub starts : (not (is_some ran.frame) || starts_frame q m) ≡ true
   pub awaited : (not (is_some ran.frame) || parts.awaits) ≡ true
-  pub waits : WaitsFor q m parts parts'
-  pub plays : HasText s → (a : Looper) → a.painted ≡ [] → IsPlayed s q made parts a
-      → IsPlayed s q made' parts' (record (delivered s q now ids m a) { painted = [] }) × (acts' ≡ acts ++ (delivered s q now ids m a).painted)
+  pub waits : AwaitsBehind q m parts parts'
+  pub plays : HasText s → (a : LooperState) → a.painted ≡ [] → IsPlayed s q made parts a
+      → IsPlayed s q made' parts' (record (after_dispatch s q now ids m a) { painted = [] }) × (acts' ≡ acts ++ (after_dispatch s q now ids m a).painted)
 
 -- the act of a pulse that came, or none
 abbrev pub pulse_acts : Option ℕ → List Act
@@ -257,9 +258,9 @@ pulse_acts None = []
 pulse_acts (Some stamp) = Vsync stamp ∷ []
 
 -- what a looper comes to by a pulse: it sends the frame message, the pulse is the latest, and its frame is to begin
-abbrev pub pulsed : ℕ → Option ℕ → Looper → Looper
-pulsed q None a = a
-pulsed q (Some stamp) a =
+abbrev pub looper_pulsed : ℕ → Option ℕ → LooperState → LooperState
+looper_pulsed q None a = a
+looper_pulsed q (Some stamp) a =
     record a {
       sent = a.sent
           ++ record { queue = q; ask = Makes (Post (frame_message q 0 0 (stamp / 1000000))); reply = None; timing = NotBefore (millis_up stamp) } ∷ [];
@@ -272,14 +273,15 @@ abbrev pub pulse_time : Option ℕ → ℕ
 pulse_time None = 0
 pulse_time (Some stamp) = millis_up stamp
 
--- what came of a pulse: the frame message was sent, unless memory was wanting, or no pulse came; the looper's own pass asked for nothing
+-- what came of a pulse: the frame message was sent, unless memory ran out, or no pulse came; the looper's own pass asked for nothing
 abbrev pub DeliversPulse : Script → ℕ → ℕ → List Entry → List Entry → Parts → Parts → Option Pulse → Type 0
 DeliversPulse s q now made made' parts parts' None =
-    IsPrefix parts.frames.view.seen parts'.frames.view.seen × (asks_of parts'.frames ≡ asks_of parts.frames) × Plays s q (pulsed q None) made parts made' parts'
+    IsPrefix parts.frames.view.seen parts'.frames.view.seen × (pass_asks parts'.frames ≡ pass_asks parts.frames)
+    × Plays s q (looper_pulsed q None) made parts made' parts'
 DeliversPulse s q now made made' parts parts' (Some pulse) =
     (pulse.sent ≢ host.NoMemory
-    → IsPrefix parts.frames.view.seen parts'.frames.view.seen × (asks_of parts'.frames ≡ asks_of parts.frames) × (millis_up pulse.stamp ≤ now)
-    × Plays s q (pulsed q (Some pulse.stamp)) made parts made' parts')
+    → IsPrefix parts.frames.view.seen parts'.frames.view.seen × (pass_asks parts'.frames ≡ pass_asks parts.frames) × (millis_up pulse.stamp ≤ now)
+    × Plays s q (looper_pulsed q (Some pulse.stamp)) made parts made' parts')
 
 -- a pulse of the script's period was delivered and told, or none came, and the looper's own pass asked for nothing
 pub record Pulses (s : Script) (q now : ℕ) (made made' : List Entry) (parts parts' : Parts) (acts acts' : List Act) : Type 0 where
@@ -288,20 +290,20 @@ pub record Pulses (s : Script) (q now : ℕ) (made made' : List Entry) (parts pa
   pub due : pulse_time stamp ≤ now
   pub told : acts' ≡ acts ++ pulse_acts stamp
   pub grew : IsPrefix parts.frames.view.seen parts'.frames.view.seen
-  pub asks : asks_of parts'.frames ≡ asks_of parts.frames
-  pub plays : Plays s q (pulsed q stamp) made parts made' parts'
+  pub asks : pass_asks parts'.frames ≡ pass_asks parts.frames
+  pub plays : Plays s q (looper_pulsed q stamp) made parts made' parts'
 
 -- ---- what is told in a mode
 
 -- a call without its timing, and a frame without the time at which it was to start
-abbrev pub untimed : Sent → Sent
+abbrev pub untimed : SentCall → SentCall
 untimed x = record x { timing = NotBefore 0 }
 
 abbrev pub unstarted : FrameAt → FrameAt
 unstarted x = record x { now = 0 }
 
 -- two states that differ at most in what free mode leaves open: the timing of calls, the due times of frame callbacks, and the starts of frames
-pub record AreAlike (a b : Looper) : Type 0 where
+pub record AreAlike (a b : LooperState) : Type 0 where
   pub gauges : a.gauges ≡ b.gauges
   pub barrier : a.barrier ≡ b.barrier
   pub barriers : a.barriers ≡ b.barriers
@@ -323,15 +325,15 @@ pub record HasRunAll (s : Script) (es : List Entry) (acts : List Act) (p : Pass)
 -- the looper's acts lead to the one state, by whatever its frame record comes to, and all that the other state says is so: each frame that it ran took all
 -- phases, in lockstep at its time, at which it started, and its own pass asked for these frames, as it is told in the mode, in order and for nothing else.
 -- The latest pulse of its own pass is that of the acts, and its frame is to begin just where they say so; in lockstep each pulse had its frame
-pub record StandsBy (lockstep : Bool) (s : Script) (q sender : ℕ) (es : List Entry) (acts : List Act) (parts : Parts) (did a : Looper) : Type 0 where
+pub record StandsBy (lockstep : Bool) (s : Script) (q sender : ℕ) (es : List Entry) (acts : List Act) (parts : Parts) (did a : LooperState) : Type 0 where
   pub led : (fs : List FrameEntry) → IsPrefix parts.frames.view.seen fs → lawful s.period (phase_count s.edition) fs ≡ true
-      → Lead s q es fs (first_looper s) acts a
+      → ActsLead s q es fs (first_looper s) acts a
   pub place : a.place ≤ length parts.frames.view.seen
   pub moments : lockstep ≡ true → (fs : List FrameEntry) → IsPrefix parts.frames.view.seen fs → lawful s.period (phase_count s.edition) fs ≡ true
       → are_run_then fs did.frames ≡ true
   pub whole : (fs : List FrameEntry) → IsPrefix parts.frames.view.seen fs → lawful s.period (phase_count s.edition) fs ≡ true
       → are_whole (phase_count s.edition) fs did.frames ≡ true
-  pub ran : map (as_told lockstep) (asks_of parts.frames) ≡ map (as_told lockstep) (asks_to_run did.frames)
+  pub ran : map (as_told lockstep) (pass_asks parts.frames) ≡ map (as_told lockstep) (asks_to_run did.frames)
   pub settled : a.painted ≡ []
   pub latest_is : HasLatest parts.frames a.stamp a.awaits
   pub awaits_is : parts.awaits ≡ a.awaits
@@ -339,33 +341,33 @@ pub record StandsBy (lockstep : Bool) (s : Script) (q sender : ℕ) (es : List E
   pub played : IsPlayed s q (calls_in sender es) parts did
 
 -- in lockstep, of one state: each frame that its dispatches ran started at the time of its dispatch
-abbrev pub Stands : Script → ℕ → ℕ → List Entry → List Act → Parts → Looper → Type 0
+abbrev pub Stands : Script → ℕ → ℕ → List Entry → List Act → Parts → LooperState → Type 0
 Stands s q sender es acts parts a = StandsBy true s q sender es acts parts a a
 
 -- the sender looked at this time, among these entries
-abbrev pub HasLooked : ℕ → List Entry → ℕ → Type 0
-HasLooked sender looks time = (e : Entry) × Contains looks e × (e.sender ≡ sender) × (e.call ≡ Next time)
+abbrev pub HasLookedAt : ℕ → List Entry → ℕ → Type 0
+HasLookedAt sender looks time = (e : Entry) × Contains looks e × (e.sender ≡ sender) × (e.call ≡ Next time)
 
 -- a call is timed by a look of the sender among these entries, or it is one on the looper's own queue that may come no later than at this moment; a looper
 -- makes no call in a block
 abbrev pub IsTimedBy : ℕ → ℕ → List Entry → ℕ → ℕ → Timing → Type 0
-IsTimedBy q sender looks now queue (At time) = HasLooked sender looks time
+IsTimedBy q sender looks now queue (At time) = HasLookedAt sender looks time
 IsTimedBy q sender looks now queue (InBlock time) = ⊥
 IsTimedBy q sender looks now queue (NotBefore time) = (time ≤ now) × (queue ≡ q)
 
 -- to post a callback is asked at this time, which is due at once
-abbrev pub IsDueAt : ℕ → FrameAsk → Type 0
-IsDueAt time (Posts phase due id token) = due ≡ frame_due time 0
-IsDueAt time (Removes phase id token) = ⊥
-IsDueAt time (Runs start) = ⊥
+abbrev pub IsAskedDueAt : ℕ → FrameAsk → Type 0
+IsAskedDueAt time (Posts phase due id token) = due ≡ frame_due time 0
+IsAskedDueAt time (Removes phase id token) = ⊥
+IsAskedDueAt time (Runs start) = ⊥
 
 -- so it is at the time of a look of the sender among these entries
 abbrev pub IsPostedBy : ℕ → List Entry → FrameAsk → Type 0
-IsPostedBy sender looks x = (time : ℕ) × HasLooked sender looks time × IsDueAt time x
+IsPostedBy sender looks x = (time : ℕ) × HasLookedAt sender looks time × IsAskedDueAt time x
 
 -- the second state has these calls more, each timed so, and these callbacks and these frames, each at the time of a look of the sender among these entries
-pub record GoesOnTo (q sender : ℕ) (looks : List Entry) (now : ℕ) (a b : Looper) : Type 0 where
-  pub more : List Sent
+pub record GoesOnTo (q sender : ℕ) (looks : List Entry) (now : ℕ) (a b : LooperState) : Type 0 where
+  pub more : List SentCall
   pub sent : b.sent ≡ a.sent ++ more
   pub timed : All (λ x. IsTimedBy q sender looks now x.queue x.timing) more
   pub posts : List FrameAsk
@@ -373,15 +375,15 @@ pub record GoesOnTo (q sender : ℕ) (looks : List Entry) (now : ℕ) (a b : Loo
   pub posted_then : All (IsPostedBy sender looks) posts
   pub ran : List FrameAt
   pub frames : b.frames ≡ a.frames ++ ran
-  pub ran_then : All (λ x. HasLooked sender looks x.now) ran
+  pub ran_then : All (λ x. HasLookedAt sender looks x.now) ran
 
 -- where a looper stands between two rounds
-abbrev pub HasCome : Script → StageLooper → Looper → Type 0
-HasCome s l a = IsSomeAnd l.parts (λ parts. Stands s l.number l.sender l.looper.held.poster.view.seen l.looper.held.journal.acts parts a)
+abbrev pub StandsBetweenRounds : Script → StageLooper → LooperState → Type 0
+StandsBetweenRounds s l a = IsSomeAnd l.parts (λ parts. Stands s l.number l.sender l.looper.held.poster.view.seen l.looper.held.journal.acts parts a)
 
 -- the looper went on to this state, and has seen these entries more
-pub record ComesTo (s : Script) (q now : ℕ) (a : Looper) (sender : ℕ) (seen es : List Entry) (acts : List Act) (parts : Parts) : Type 0 where
-  pub state : Looper
+pub record ComesTo (s : Script) (q now : ℕ) (a : LooperState) (sender : ℕ) (seen es : List Entry) (acts : List Act) (parts : Parts) : Type 0 where
+  pub state : LooperState
   pub stands : Stands s q sender es acts parts state
   pub looks : List Entry
   pub saw : es ≡ seen ++ looks
@@ -390,44 +392,44 @@ pub record ComesTo (s : Script) (q now : ℕ) (a : Looper) (sender : ℕ) (seen 
 -- in a round at this moment: whatever state the looper stood at when the round began, it has gone on from there
 abbrev pub IsPlaying : Script → ℕ → ℕ → StageLooper → ℕ → List Entry → List Act → Parts → Type 0
 IsPlaying s q now began sender es acts parts =
-    HasText s → (a : Looper) → HasCome s began a → ComesTo s q now a sender began.looper.held.poster.view.seen es acts parts
+    HasText s → (a : LooperState) → StandsBetweenRounds s began a → ComesTo s q now a sender began.looper.held.poster.view.seen es acts parts
 
--- the same once the round is over, unless memory was wanting
+-- the same once the round is over, unless memory ran out
 abbrev pub HasPlayed : Script → ℕ → StageLooper → StageLooper → Type 0
-HasPlayed s now before after = is_given_up after.last ≡ false → HasText s → (a : Looper) → HasCome s before a
+HasPlayed s now before after = is_given_up after.last ≡ false → HasText s → (a : LooperState) → StandsBetweenRounds s before a
     → IsSomeAnd after.parts (ComesTo s before.number now a before.sender
     before.looper.held.poster.view.seen after.looper.held.poster.view.seen after.looper.held.journal.acts)
 
 -- ---- by a clock
 
 -- where a looper stands between two loops: its acts lead to the one state, it did what the other says, and the two are alike
-abbrev pub HasComeBy : Script → StageLooper → Looper → Looper → Type 0
-HasComeBy s l did a =
+abbrev pub StandsBetweenLoops : Script → StageLooper → LooperState → LooperState → Type 0
+StandsBetweenLoops s l did a =
     AreAlike did a × IsSomeAnd l.parts (λ parts. StandsBy false s l.number l.sender l.looper.held.poster.view.seen l.looper.held.journal.acts parts did a)
 
 -- it went on to such states
 pub record ComesBy (s : Script) (q sender : ℕ) (es : List Entry) (acts : List Act) (parts : Parts) : Type 0 where
-  pub did : Looper
-  pub state : Looper
+  pub did : LooperState
+  pub state : LooperState
   pub alike : AreAlike did state
   pub stands : StandsBy false s q sender es acts parts did state
 
 -- in a loop by a clock: from whatever states it began it has gone on
 abbrev pub IsPlayingBy : Script → ℕ → StageLooper → ℕ → List Entry → List Act → Parts → Type 0
-IsPlayingBy s q began sender es acts parts = HasText s → (did a : Looper) → HasComeBy s began did a → ComesBy s q sender es acts parts
+IsPlayingBy s q began sender es acts parts = HasText s → (did a : LooperState) → StandsBetweenLoops s began did a → ComesBy s q sender es acts parts
 
--- the same once the loop is over, unless memory was wanting
+-- the same once the loop is over, unless memory ran out
 abbrev pub HasPlayedBy : Script → StageLooper → StageLooper → Type 0
-HasPlayedBy s before after = is_given_up after.last ≡ false → HasText s → (did a : Looper) → HasComeBy s before did a
+HasPlayedBy s before after = is_given_up after.last ≡ false → HasText s → (did a : LooperState) → StandsBetweenLoops s before did a
     → IsSomeAnd after.parts (ComesBy s before.number before.sender after.looper.held.poster.view.seen after.looper.held.journal.acts)
 
 -- ---- at the end
 
 -- where a looper stood, told by its journal and what it worked with
-pub record HasLeft (s : Script) (q : ℕ) (j : Journal) (kit : Kit) (a : Looper) : Type 0 where
+pub record HasLeft (s : Script) (q : ℕ) (j : Journal) (kit : Kit) (a : LooperState) : Type 0 where
   pub led : (d : Sender) (p : Pass) (fs : List FrameEntry) → IsPrefix (slice_index_or kit.frames.items 0 p).view.seen fs
       → lawful s.period (phase_count s.edition) fs ≡ true
-      → Lead s q (slice_index_or kit.posters.items q d).view.seen fs (first_looper s) j.acts a
+      → ActsLead s q (slice_index_or kit.posters.items q d).view.seen fs (first_looper s) j.acts a
   pub moments : (p : Pass) (fs : List FrameEntry) → IsPrefix (slice_index_or kit.frames.items 0 p).view.seen fs
       → lawful s.period (phase_count s.edition) fs ≡ true → are_run_then fs a.frames ≡ true
   pub pulses : (d : Sender) → IsSoundOn s q (slice_index_or kit.posters.items q d).view.seen → has_frames j.acts a ≡ true
@@ -436,20 +438,20 @@ pub record HasLeft (s : Script) (q : ℕ) (j : Journal) (kit : Kit) (a : Looper)
   pub settled : a.painted ≡ []
   pub calls : (d : Sender) → AreFor IsSent [] (sent_on q a.sent) (calls_of (slice_index_or kit.posters.items q d))
   pub elsewhere : (k : ℕ) (d : Sender) → k ≢ q → k < length kit.posters.items → AreFor IsSent [] (sent_on k a.sent) (own (slice_index_or kit.posters.items k d))
-  pub asked : (p : Pass) → asks_of (slice_index_or kit.frames.items 1 p) ≡ a.posted
+  pub asked : (p : Pass) → pass_asks (slice_index_or kit.frames.items 1 p) ≡ a.posted
   pub turns : (p : Pass) → (slice_index_or kit.frames.items 1 p).view.turns ≡ length a.posted
-  pub ran : (p : Pass) → asks_of (slice_index_or kit.frames.items 0 p) ≡ asks_to_run a.frames
+  pub ran : (p : Pass) → pass_asks (slice_index_or kit.frames.items 0 p) ≡ asks_to_run a.frames
 
 -- the same of a looper by a clock, as free mode tells it: the due times of frame callbacks and the starts of frames are left open
-pub record HasLeftBy (s : Script) (q : ℕ) (j : Journal) (kit : Kit) (a : Looper) : Type 0 where
+pub record HasLeftBy (s : Script) (q : ℕ) (j : Journal) (kit : Kit) (a : LooperState) : Type 0 where
   pub led : (d : Sender) (p : Pass) (fs : List FrameEntry) → IsPrefix (slice_index_or kit.frames.items 0 p).view.seen fs
       → lawful s.period (phase_count s.edition) fs ≡ true
-      → Lead s q (slice_index_or kit.posters.items q d).view.seen fs (first_looper s) j.acts a
+      → ActsLead s q (slice_index_or kit.posters.items q d).view.seen fs (first_looper s) j.acts a
   pub whole : (p : Pass) (fs : List FrameEntry) → IsPrefix (slice_index_or kit.frames.items 0 p).view.seen fs
       → lawful s.period (phase_count s.edition) fs ≡ true → are_whole (phase_count s.edition) fs a.frames ≡ true
   pub settled : a.painted ≡ []
   pub calls : (d : Sender) → AreFor IsSent [] (sent_on q a.sent) (calls_of (slice_index_or kit.posters.items q d))
   pub elsewhere : (k : ℕ) (d : Sender) → k ≢ q → k < length kit.posters.items → AreFor IsSent [] (sent_on k a.sent) (own (slice_index_or kit.posters.items k d))
-  pub asked : (p : Pass) → map (as_told false) (asks_of (slice_index_or kit.frames.items 1 p)) ≡ map (as_told false) a.posted
+  pub asked : (p : Pass) → map (as_told false) (pass_asks (slice_index_or kit.frames.items 1 p)) ≡ map (as_told false) a.posted
   pub turns : (p : Pass) → (slice_index_or kit.frames.items 1 p).view.turns ≡ length a.posted
-  pub ran : (p : Pass) → map (as_told false) (asks_of (slice_index_or kit.frames.items 0 p)) ≡ map (as_told false) (asks_to_run a.frames)
+  pub ran : (p : Pass) → map (as_told false) (pass_asks (slice_index_or kit.frames.items 0 p)) ≡ map (as_told false) (asks_to_run a.frames)

@@ -19,18 +19,18 @@ use Rattle.loop_model.specs.declared.entry.Entry.{Entry}
 use Rattle.loop_model.specs.declared.journal.Act.{Act}
 use Rattle.loop_model.specs.declared.journal.Act.TheVariants.{Dispatch, Idle, Event, Vsync, Paint}
 use Rattle.dash_script.specs.declared.script.Script.{Script}
-use Rattle.looper_run.specs.Acts.{IsQuiet}
+use Rattle.looper_run.specs.Acts.{IsQuietAct}
 use Rattle.run_model.specs.Planned.{entries_by, sender_count}
 use Rattle.run_model.specs.Control.{Timing, At, InBlock, NotBefore}
 use Rattle.run_model.specs.FrameRecords.{FrameAt, nanos_of}
-use Rattle.run_model.specs.Loopers.{Looper, first_looper, after_act, pulse_stamp}
-use Rattle.choreographer.specs.Known.{Known as Pass}
+use Rattle.run_model.specs.Loopers.{LooperState, first_looper, after_act, pulse_stamp}
+use Rattle.choreographer.specs.Known.{Pass}
 use Rattle.choreographer.proofs.InTime.{later_then}
-use Rattle.run_model.proofs.RunLaws.{Lead-snoc}
-use Rattle.run_model.proofs.Growth.{Lead-entries}
+use Rattle.run_model.proofs.RunLaws.{ActsLead-snoc}
+use Rattle.run_model.proofs.Growth.{ActsLead-entries}
 use Rattle.dash_loopers.specs.declared.player.Parts.{Parts}
 use Rattle.dash_loopers.specs.declared.looper.StageLooper.{StageLooper}
-use Rattle.dash_loopers.specs.Played.{calls_in, IsPlayed, StandsBy, Stands, IsTimedBy, HasLooked, IsPostedBy, GoesOnTo, ComesTo, IsPlaying, IsPlayingBy}
+use Rattle.dash_loopers.specs.Played.{calls_in, IsPlayed, StandsBy, Stands, IsTimedBy, HasLookedAt, IsPostedBy, GoesOnTo, ComesTo, IsPlaying, IsPlayingBy}
 use Rattle.dash_loopers.specs.Played.{HasRunAll}
 use Rattle.dash_loopers.specs.Loopers.{IsSoundOn, setting_for, is_disposal}
 
@@ -102,10 +102,10 @@ no_pulse acts x none =
 
 module _ {lockstep : Bool} (s : Script) (q k : ℕ) where
   -- entries that are no calls of the looper
-  pub stands_beside : (es more : List Entry) (acts : List Act) (parts : Parts) (did a : Looper) → calls_in k (es ++ more) ≡ calls_in k es
+  pub stands_beside : (es more : List Entry) (acts : List Act) (parts : Parts) (did a : LooperState) → calls_in k (es ++ more) ≡ calls_in k es
       → StandsBy lockstep s q k es acts parts did a → StandsBy lockstep s q k (es ++ more) acts parts did a
   stands_beside es more acts parts did a same st = record {
-    led = λ fs begins is. Lead-entries s q es fs more (first_looper s) acts a (st.led fs begins is);
+    led = λ fs begins is. ActsLead-entries s q es fs more (first_looper s) acts a (st.led fs begins is);
     place = st.place;
     moments = st.moments;
     whole = st.whole;
@@ -118,11 +118,12 @@ module _ {lockstep : Bool} (s : Script) (q k : ℕ) where
   }
 
   -- an act of an idle handler or an event
-  pub stands_quiet : (es : List Entry) (x : Act) (acts : List Act) (parts : Parts) (did a : Looper) → IsQuiet x → StandsBy lockstep s q k es acts parts did a
+  pub stands_quiet : (es : List Entry) (x : Act) (acts : List Act) (parts : Parts) (did a : LooperState) → IsQuietAct x
+      → StandsBy lockstep s q k es acts parts did a
       → StandsBy lockstep s q k es (acts ++ x ∷ []) parts did a
   unfolding after_act
   stands_quiet es (Idle i t) acts parts did a is st = record {
-    led = λ fs begins law. Lead-snoc s q es fs None (first_looper s) acts a (Idle i t) (st.led fs begins law) (refl, st.settled);
+    led = λ fs begins law. ActsLead-snoc s q es fs None (first_looper s) acts a (Idle i t) (st.led fs begins law) (refl, st.settled);
     place = st.place;
     moments = st.moments;
     whole = st.whole;
@@ -134,7 +135,7 @@ module _ {lockstep : Bool} (s : Script) (q k : ℕ) where
     played = st.played;
   }
   stands_quiet es (Event f e m) acts parts did a is st = record {
-    led = λ fs begins law. Lead-snoc s q es fs None (first_looper s) acts a (Event f e m) (st.led fs begins law) (refl, st.settled);
+    led = λ fs begins law. ActsLead-snoc s q es fs None (first_looper s) acts a (Event f e m) (st.led fs begins law) (refl, st.settled);
     place = st.place;
     moments = st.moments;
     whole = st.whole;
@@ -152,10 +153,10 @@ module _ {lockstep : Bool} (s : Script) (q k : ℕ) where
 -- ---- calls more, and looks more
 
 -- a look among some is one among more
-looked_left : (k : ℕ) (looks more : List Entry) (time : ℕ) → HasLooked k looks time → HasLooked k (looks ++ more) time
+looked_left : (k : ℕ) (looks more : List Entry) (time : ℕ) → HasLookedAt k looks time → HasLookedAt k (looks ++ more) time
 looked_left k looks more time h = (h.0, Contains-append_left looks more h.0 h.1, h.2, h.3)
 
-looked_right : (k : ℕ) (looks more : List Entry) (time : ℕ) → HasLooked k more time → HasLooked k (looks ++ more) time
+looked_right : (k : ℕ) (looks more : List Entry) (time : ℕ) → HasLookedAt k more time → HasLookedAt k (looks ++ more) time
 looked_right k looks more time h = (h.0, Contains-append_right looks more h.0 h.1, h.2, h.3)
 
 -- a call that was timed by some looks is timed by more
@@ -169,7 +170,7 @@ timed_right q k looks more now queue (At time) h = looked_right k looks more tim
 timed_right q k looks more now queue (InBlock time) h = absurd h
 timed_right q k looks more now queue (NotBefore time) h = h
 
-pub goes_then : (q k : ℕ) (looks more : List Entry) (now : ℕ) (a b c : Looper) → GoesOnTo q k looks now a b → GoesOnTo q k more now b c
+pub goes_then : (q k : ℕ) (looks more : List Entry) (now : ℕ) (a b c : LooperState) → GoesOnTo q k looks now a b → GoesOnTo q k more now b c
     → GoesOnTo q k (looks ++ more) now a c
 goes_then q k looks more now a b c f g = record {
   more = f.more ++ g.more;
@@ -183,11 +184,11 @@ goes_then q k looks more now a b c f g = record {
       (λ i x near. (let p = g.posted_then i x near in (p.0, looked_right k looks more p.0 p.1, p.2)));
   ran = f.ran ++ g.ran;
   frames = g.frames ∙ (ap (λ l. l ++ g.ran) f.frames ∙ append_assoc a.frames f.ran g.ran);
-  ran_then = All-append (λ x. HasLooked k (looks ++ more) x.now) f.ran g.ran
+  ran_then = All-append (λ x. HasLookedAt k (looks ++ more) x.now) f.ran g.ran
       (λ i x near. looked_left k looks more _ (f.ran_then i x near)) (λ i x near. looked_right k looks more _ (g.ran_then i x near));
 }
 
-pub goes_nowhere : (q k : ℕ) (looks : List Entry) (now : ℕ) (a : Looper) → GoesOnTo q k looks now a a
+pub goes_nowhere : (q k : ℕ) (looks : List Entry) (now : ℕ) (a : LooperState) → GoesOnTo q k looks now a a
 goes_nowhere q k looks now a = record {
   more = [];
   sent = sym (append-nil a.sent);
@@ -197,15 +198,15 @@ goes_nowhere q k looks now a = record {
   posted_then = All-nil (IsPostedBy k looks);
   ran = [];
   frames = sym (append-nil a.frames);
-  ran_then = All-nil (λ (x : FrameAt). HasLooked k looks x.now);
+  ran_then = All-nil (λ (x : FrameAt). HasLookedAt k looks x.now);
 }
 
 -- ---- the laws
 
 module _ (s : Script) (q now : ℕ) where
   -- one step more
-  pub comes_on : (a : Looper) (k : ℕ) (seen es looks : List Entry) (acts acts' : List Act) (parts parts' : Parts)
-      (c : ComesTo s q now a k seen es acts parts) (b : Looper)
+  pub comes_on : (a : LooperState) (k : ℕ) (seen es looks : List Entry) (acts acts' : List Act) (parts parts' : Parts)
+      (c : ComesTo s q now a k seen es acts parts) (b : LooperState)
       → Stands s q k (es ++ looks) acts' parts' b → GoesOnTo q k looks now c.state b → ComesTo s q now a k seen (es ++ looks) acts' parts'
   comes_on a k seen es looks acts acts' parts parts' c b stands on = record {
     state = b;
@@ -235,7 +236,7 @@ module _ (s : Script) (q now : ℕ) where
         (goes_nowhere q k (e ∷ []) now c.state)
 
     -- an idle handler ran, or a listener was told of an event
-    pub playing_quiet : (k : ℕ) (es : List Entry) (x : Act) (acts : List Act) (parts : Parts) → IsQuiet x → IsPlaying s q now began k es acts parts
+    pub playing_quiet : (k : ℕ) (es : List Entry) (x : Act) (acts : List Act) (parts : Parts) → IsQuietAct x → IsPlaying s q now began k es acts parts
         → IsPlaying s q now began k es (acts ++ x ∷ []) parts
     playing_quiet k es x acts parts is meets = λ text a come.
         let c = meets text a come in
@@ -270,7 +271,7 @@ module _ (s : Script) (q : ℕ) (began : StageLooper) where
       }
 
   -- an idle handler ran, or a listener was told of an event
-  pub playing_by_quiet : (k : ℕ) (es : List Entry) (x : Act) (acts : List Act) (parts : Parts) → IsQuiet x → IsPlayingBy s q began k es acts parts
+  pub playing_by_quiet : (k : ℕ) (es : List Entry) (x : Act) (acts : List Act) (parts : Parts) → IsQuietAct x → IsPlayingBy s q began k es acts parts
       → IsPlayingBy s q began k es (acts ++ x ∷ []) parts
   playing_by_quiet k es x acts parts is meets = λ text did a come.
       let c = meets text did a come in

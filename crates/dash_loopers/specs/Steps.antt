@@ -7,13 +7,13 @@ use Rattle.looper_run.specs.Holding.{KeptOwn as Own}
 use Rattle.looper_run.specs.Holding.{Sender, Workplace, held, IsSameOwn}
 use Rattle.looper_run.specs.Tests.{IsLent}
 use Rattle.looper_run.specs.Acts.{IsOfDispatcher, GrowsBy}
-use Rattle.choreographer.specs.Known.{Shared as Frames, Known as Pass, IsOf, SeesQuietly}
+use Rattle.choreographer.specs.Known.{SharedFrames, Pass, IsPassOf, SeesQuietly}
 use Rattle.run_model.specs.Planned.{frame_handler}
 use Rattle.dash_script.specs.declared.script.Script.{Script}
 use Rattle.dash_hall.specs.declared.hall.Hall.{Hall}
 use Rattle.dash_hall.specs.declared.host.Host.{Host}
 use Rattle.dash_hall.specs.ByClock.{AddsAt}
-use Rattle.dash_hall.specs.Hosts.{asks_of, IsHostNow, IsSameHost}
+use Rattle.dash_hall.specs.Hosts.{pass_asks, IsHostNow, IsSameHost}
 use Rattle.dash_hall.specs.Kits.{frame_badge_of}
 use Rattle.dash_loopers.specs.declared.player.Parts.{Parts}
 use Rattle.dash_loopers.specs.declared.view_root.ViewRoot.{ViewRoot}
@@ -30,8 +30,8 @@ pub record IsAtPlace (s : Script) (hall : Hall) (number : ℕ) (w : Workplace) :
   pub place : IsPlaceOf hall number w
 
 -- the queue of a poster, and the pool of a pass
-abbrev pub place_of : Sender → Tally → Workplace
-place_of poster pass = record { table = poster.table; constants = poster.view.constants; pool = pass.home }
+abbrev pub workplace_of : Sender → Tally → Workplace
+workplace_of poster pass = record { table = poster.table; constants = poster.view.constants; pool = pass.home }
 
 -- what was lent came back by the same references and only grew, and its poster rang no bell
 pub record LeavesOwn (lends lends' : Own) : Type 0 where
@@ -68,7 +68,7 @@ pub record TellsNothing (lends lends' : Own) : Type 0 where
 -- more was quiet
 pub record AsksNothing (before after : Pass) : Type 0 where
   pub seen : IsPrefix before.view.seen after.view.seen
-  pub asks : asks_of after ≡ asks_of before
+  pub asks : pass_asks after ≡ pass_asks before
   pub latest : KeepsLatest before after
   pub quiet : SeesQuietly before after
 
@@ -89,9 +89,9 @@ pub record IsHostFor {R U : Type 0} (q now : ℕ) (uptime : U) (poster_name : �
   pub ready : IsHostNow h
 
 -- the view root works by this host, and with a pass of the choreographer, which has a phase for all that it posts
-pub record ShowsBy {R U : Type 0} (c : Frames) (host : Host R U) (root : ViewRoot) : Type 0 where
+pub record ShowsBy {R U : Type 0} (c : SharedFrames) (host : Host R U) (root : ViewRoot) : Type 0 where
   pub ready : IsHostNow host
-  pub pass : IsOf root.pass c × (3 < c.constants.phases)
+  pub pass : IsPassOf root.pass c × (3 < c.constants.phases)
 
 -- the host and the view root's pass are the same
 pub record LeavesRoot {R U : Type 0} (host host' : Host R U) (root root' : ViewRoot) : Type 0 where

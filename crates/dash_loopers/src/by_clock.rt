@@ -11,8 +11,8 @@ ghost use Rattle.dash_loopers.specs.Loopers.{IsLooper, IsLooperOf, round_of, is_
 ghost use Rattle.dash_loopers.specs.Places.{ServesOn, DeliversOn};
 ghost use Rattle.dash_loopers.specs.Players.{RingsMain, AreSameParts};
 ghost use Rattle.dash_loopers.specs.Clocked.{goes_to_rules, DeliversAt, ClockOwner, ServesFree, IsPlayingAt};
-ghost use Rattle.dash_loopers.specs.Looped.{clock_mode, HasLooped, with_parts, PlayerLooped, HasOnlyLooked, PlayerBegins};
-ghost use Rattle.dash_loopers.specs.Looped.{earlier_of, ends_at, AsksPulse, LoopsBy, LoopsUpTo};
+ghost use Rattle.dash_loopers.specs.Looped.{clock_mode, HasLooped, looper_with_parts, PlayerLooped, HasOnlyLooked, PlayerBegins};
+ghost use Rattle.dash_loopers.specs.Looped.{earlier_of, ends_at, LooperAsksPulse, LoopsUpToCap, LoopsUntilStopped};
 ghost use Rattle.dash_loopers.specs.ClockedLaws.{playing_at_others, playing_at_disposed, playing_at_quiet};
 ghost use Rattle.looper_run.specs.Tests.{IsLent};
 
@@ -190,7 +190,7 @@ impl StageLooper {
         requires may { MayWork false script.now hall.now self.old }
         ensures looped { HasLooped (clock_mode C.shows timer.now) script.now hall.now self.old self.new }
         ensures stays { (is_ended self.old.last || is_given_up self.old.last) ≡ true → self.new ≡ self.old }
-        ensures rounds { LoopsUpTo (clock_mode C.shows timer.now) script.now end self.old self.new result }
+        ensures rounds { LoopsUntilStopped (clock_mode C.shows timer.now) script.now end self.old self.new result }
     {
         let pace = Pace { gate, timer };
         for _ in rt.forever() {
@@ -245,7 +245,7 @@ impl StageLooper {
         requires hall { IsHall script.now hall.now }
         requires looper { IsLooper script.now hall.now self.old }
         ensures looked { HasOnlyLooked script.now hall.now self.old self.new }
-        ensures asks { AsksPulse self.old self.new result }
+        ensures asks { LooperAsksPulse self.old self.new result }
     {
         let Some(mut parts) = self.parts.take() else {
             unreachable!()
@@ -300,7 +300,7 @@ impl StageLooper {
         requires going { (is_ended self.old.last ≡ false) × (is_given_up self.old.last ≡ false) }
         ensures last { self.new.last ≡ round_of result }
         ensures looped { HasLooped (clock_mode C.shows pace.now.timer.now) script.now hall.now self.old self.new }
-        ensures loops { LoopsBy (clock_mode C.shows pace.now.timer.now) script.now cap self.old self.new result }
+        ensures loops { LoopsUpToCap (clock_mode C.shows pace.now.timer.now) script.now cap self.old self.new result }
     {
         let began = Snapshot::of(&*self);
         let queue = of_looper(&hall.queues, self.number);
@@ -360,7 +360,7 @@ impl StageLooper {
     /// Takes its parts back behind a loop that ended so. Where that found no memory it gives the run up, and nudges main.
     fn take_back<R: Wait, G: Gate, C: Clock>(&mut self, player: ClockPlayer<R, G, C>, last: Round)
         requires hall { IsHall player.place.script.now player.place.hall.now }
-        requires looped { PlayerLooped (clock_mode C.shows player.timer.now) player (with_parts self.old last player.parts) }
+        requires looped { PlayerLooped (clock_mode C.shows player.timer.now) player (looper_with_parts self.old last player.parts) }
         ensures last { self.new.last ≡ last }
         ensures held { self.new.looper ≡ self.old.looper }
         ensures nudged { is_given_up last ≡ true → self.old.number ≢ 0 → IsSomeAnd self.new.parts (RingsMain player.entry.parts) }

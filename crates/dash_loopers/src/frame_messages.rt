@@ -10,8 +10,8 @@ ghost use Rattle.run_model.specs.Loopers.{starts_frame, object_set};
 ghost use Rattle.looper_run.specs.Tests.{Unless};
 ghost use Rattle.choreographer.specs.declared.host.HostSent.TheVariants.{NoMemory as NoRoom};
 ghost use Rattle.choreographer.specs.Calls.{stamp_in};
-ghost use Rattle.dash_loopers.specs.Places.{ServesOn, PlaysOn, DeliversOn, DeliversPulseOn, PulsesOn, PulsedOn, IsDueAt};
-ghost use Rattle.dash_loopers.specs.Steps.{Leaves, KeepsToQueue, IsAtPlace, place_of, IsHostFor, TellsNothing, AsksNothing, TellsMore};
+ghost use Rattle.dash_loopers.specs.Places.{ServesOn, PlayStep, DeliversOn, DeliversPulseOn, PulsesOn, PulsedOn, SchedulesIfDue};
+ghost use Rattle.dash_loopers.specs.Steps.{Leaves, KeepsToQueue, IsAtPlace, workplace_of, IsHostFor, TellsNothing, AsksNothing, TellsMore};
 
 use crate::player::{Parts, Place, did};
 use crate::view_root::Painted;
@@ -36,7 +36,7 @@ impl<'a, R: Wait> Place<'a, R> {
         now: u64,
         uptime: &'b U,
     ) -> Host<'b, R, U>
-        requires at { IsAtPlace self.now.script.now self.now.hall.now self.now.looper (place_of poster.old pass.old) }
+        requires at { IsAtPlace self.now.script.now self.now.hall.now self.now.looper (workplace_of poster.old pass.old) }
         requires began { (began.now.value ≡ poster.old) × (pass_began.now.value ≡ pass.old) }
         ensures host { IsHostFor self.now.looper now uptime.now poster.entry.ghost_name poster.old pass.entry.ghost_name pass.old result }
     {
@@ -123,11 +123,11 @@ impl<'a, R: Wait> Place<'a, R> {
     fn on_due(&self, parts: &mut Parts, own: &mut Own, phase: u32, now: u64)
         requires serves { ServesOn self.now parts.old own.old }
         ensures leaves { KeepsToQueue now parts.old parts.new own.old own.new }
-        ensures plays { PlaysOn self.now (λ a. a) own.old own.new parts.old parts.new }
+        ensures plays { PlayStep self.now (λ a. a) own.old own.new parts.old parts.new }
         ensures tells { TellsNothing own.old own.new }
         ensures asks { AsksNothing parts.old.frames parts.new.frames }
         ensures awaits { parts.new.awaits ≡ parts.old.awaits }
-        ensures due { phase < phase_count self.now.script.now.edition → IsDueAt now phase parts.old.frames parts.new.frames }
+        ensures due { phase < phase_count self.now.script.now.edition → SchedulesIfDue now phase parts.old.frames parts.new.frames }
         ensures beyond { phase_count self.now.script.now.edition ≤ phase → parts.new ≡ parts.old }
     {
         let phases = phase_count(self.script.edition);
@@ -152,7 +152,7 @@ impl<'a, R: Wait> Place<'a, R> {
     ) -> Result<(), NoMemory>
         requires serves { ServesOn self.now parts.old own.old }
         ensures leaves { KeepsToQueue now parts.old parts.new own.old own.new }
-        ensures plays { OnOk result (PlaysOn self.now (object_set self.now.script.now self.now.looper now object target) own.old own.new parts.old parts.new) }
+        ensures plays { OnOk result (PlayStep self.now (object_set self.now.script.now self.now.looper now object target) own.old own.new parts.old parts.new) }
         ensures acts { own.new.journal.now.acts ≡ own.old.journal.now.acts }
         ensures frames { (parts.new.frames ≡ parts.old.frames) × (parts.new.awaits ≡ parts.old.awaits) }
     {
@@ -222,7 +222,7 @@ fn tell(journal: &mut Journal, act: Act) -> Result<(), NoMemory>
     Ok(())
 }
 
-/// Whether memory was wanting for a message.
+/// Whether memory ran out for a message.
 fn is_wanting(sent: HostSent) -> bool
     ensures { result ≡ false → sent ≡ NoRoom → ⊥ }
 {

@@ -1,7 +1,7 @@
 //! The callbacks of one frame.
 ghost use Rattle.std.specs.Prelude.{◌≡◌, ◌<◌, Some, OnOk};
 ghost use Rattle.std.proofs.Common.{subst, sym};
-ghost use Rattle.choreographer.specs.Known.{IsOf, MayBegin};
+ghost use Rattle.choreographer.specs.Known.{IsPassOf, MayBegin};
 ghost use Rattle.dash_hall.specs.Kits.{frame_badge_of};
 ghost use Rattle.dash_loopers.specs.Places.{FrameShows, RootRuns, HasEndedWait};
 ghost use Rattle.dash_loopers.specs.Players.{FrameOwner, frame_owner};
@@ -29,7 +29,7 @@ pub(crate) struct FrameRun<'a> {
 }
 
 impl<'a, 'b, R: Wait, U: Uptime> FrameClient<Host<'b, R, U>> for FrameRun<'a> {
-    ghost Serves = { λ l c. IsOf l.root.now.pass c × (3 < c.constants.phases) };
+    ghost Serves = { λ l c. IsPassOf l.root.now.pass c × (3 < c.constants.phases) };
 
     ghost Origin = { FrameOwner };
 
@@ -67,7 +67,7 @@ impl ViewRoot {
         host: &mut Host<R, U>,
     ) -> Result<(), NoMemory>
         requires by { ShowsBy c.now host.old self.old }
-        requires pass { IsOf pass.old c.now }
+        requires pass { IsPassOf pass.old c.now }
         requires begins { MayBegin pass.old c.now }
         ensures keeps { LeavesRoot host.old host.new self.old self.new }
         ensures pass { frame_badge_of pass.new ≡ frame_badge_of pass.old }

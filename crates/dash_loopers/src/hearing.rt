@@ -3,7 +3,7 @@ ghost use Rattle.std.specs.Prelude.{◌≡◌, ◌<◌, IsSome};
 ghost use mathlib.Core.List.{IsPrefix};
 ghost use Rattle.shared_queue.specs.Known.{IsOf};
 ghost use Rattle.dash_loopers.specs.Players.{PlaceWithout};
-ghost use Rattle.choreographer.specs.Known.{IsOf as IsFrameOf, HasHeardWho};
+ghost use Rattle.choreographer.specs.Known.{IsPassOf, HasHeardWho};
 ghost use Rattle.dash_hall.specs.Hearing.{HasHeard, HaveHeardAt, AreKept, AreReady, AreKnown, PassHasHeard};
 ghost use Rattle.dash_loopers.specs.Loopers.{IsWithin, posters_of, LooperKeeps, OfItsPasses, TellsPasses, HearsPasses};
 
@@ -68,8 +68,8 @@ impl StageLooper {
     /// Lets another pass of its choreographer hear its two. It takes no turn.
     pub fn tell_passes(&mut self, choreographer: &Choreographer, other: &mut FramePass)
         requires parts { IsSome self.old.parts }
-        requires passes { OfItsPasses (λ p. IsFrameOf p choreographer.now) self.old }
-        requires other { IsFrameOf other.old choreographer.now }
+        requires passes { OfItsPasses (λ p. IsPassOf p choreographer.now) self.old }
+        requires other { IsPassOf other.old choreographer.now }
         ensures kept { TellsPasses self.old self.new }
         ensures heard { PassHasHeard other.old other.new }
         ensures told { OfItsPasses (λ p. IsPrefix p.view.heard other.new.view.heard) self.old }
@@ -86,8 +86,8 @@ impl StageLooper {
     /// Lets its two passes of its choreographer hear another one, which has heard all that they have. It takes no turn.
     pub fn hear_passes(&mut self, choreographer: &Choreographer, other: &mut FramePass)
         requires parts { IsSome self.old.parts }
-        requires passes { OfItsPasses (λ p. IsFrameOf p choreographer.now) self.old }
-        requires other { IsFrameOf other.old choreographer.now }
+        requires passes { OfItsPasses (λ p. IsPassOf p choreographer.now) self.old }
+        requires other { IsPassOf other.old choreographer.now }
         requires known { OfItsPasses (λ p. IsPrefix p.view.heard other.old.view.heard) self.old }
         ensures kept { HearsPasses other.old.view.heard self.old self.new }
         ensures other { other.new ≡ other.old }

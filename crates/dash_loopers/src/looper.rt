@@ -2,10 +2,10 @@
 ghost use Rattle.std.specs.Prelude.{◌≡◌, ◌≢◌, ◌+◌, ◌<◌, true, false, IfOk};
 ghost use Rattle.looper_run.specs.Round.{is_ended};
 ghost use Rattle.dash_hall.specs.Kits.{IsHall, IsKitOf, IsUnusedKit};
-ghost use Rattle.dash_loopers.specs.Loopers.{ComesToWait, IsLooper, IsLooperOf, ArePartsOf, HasRun, is_given_up, until_of, MayWork, IsLooperStill};
+ghost use Rattle.dash_loopers.specs.Loopers.{ComesToWait, IsLooper, IsLooperOf, ArePartsOf, HasRunLockstep, is_given_up, until_of, MayWork, IsLooperStill};
 ghost use Rattle.dash_loopers.specs.Players.{AreSameParts, RingsMain};
 ghost use Rattle.dash_loopers.specs.Played.{HasPlayed};
-ghost use Rattle.dash_loopers.specs.Ends.{BeginsWith, GivesBack, IsToldBy};
+ghost use Rattle.dash_loopers.specs.Ends.{IsNewLooper, HandsOutKit, IsToldBy};
 
 use crate::player::{Parts, Place, Player, of_looper};
 use crate::view_root::ViewRoot;
@@ -45,7 +45,7 @@ impl StageLooper {
         requires looper { IsLooperOf script.now hall.now number }
         requires kit { IsKitOf script.now hall.now (script.now.threads + number) kit }
         requires unused { IsUnusedKit kit }
-        ensures begins { IfOk result (BeginsWith script.now hall.now number kit) }
+        ensures begins { IfOk result (IsNewLooper script.now hall.now number kit) }
     {
         let Kit {
             mut posters,
@@ -119,7 +119,7 @@ impl StageLooper {
     )
         requires may { MayWork true script.now hall.now self.old }
         ensures still { IsLooperStill script.now hall.now self.old self.new }
-        ensures round { HasRun script.now now self.old self.new }
+        ensures round { HasRunLockstep script.now now self.old self.new }
         ensures waits { ComesToWait script.now self.old self.new }
         ensures plays { HasPlayed script.now now self.old self.new }
     {
@@ -166,7 +166,7 @@ impl StageLooper {
     ) -> Result<(Journal, Kit), NoMemory>
         requires hall { IsHall script.now hall.now }
         requires looper { IsLooper script.now hall.now self }
-        ensures gives { IfOk result (λ r. GivesBack script.now hall.now self r.0 r.1) }
+        ensures gives { IfOk result (λ r. HandsOutKit script.now hall.now self r.0 r.1) }
         ensures told { IfOk result (λ r. IsToldBy script.now self r.0 r.1) }
     {
         let StageLooper {

@@ -8,11 +8,11 @@ ghost use Rattle.dash_hall.specs.Growth.{Makes};
 ghost use Rattle.dash_loopers.specs.declared.player.Parts.{Parts as PartsData};
 ghost use Rattle.dash_script.specs.Reading.{HasText};
 ghost use Rattle.loop_model.specs.declared.call.Call.TheVariants.{Post as Posts};
-ghost use Rattle.run_model.specs.Planned.{plain};
+ghost use Rattle.run_model.specs.Planned.{bare_call};
 ghost use Rattle.dash_loopers.specs.Played.{FiresAt, rule_met, with_call};
 ghost use Rattle.run_model.specs.Control.{Timing};
 ghost use Rattle.run_model.specs.Loopers.{reacted, reaction};
-ghost use Rattle.dash_loopers.specs.Places.{ServesOn, PlaysOn};
+ghost use Rattle.dash_loopers.specs.Places.{ServesOn, PlayStep};
 ghost use Rattle.dash_loopers.specs.Steps.{IsAtPlace, LeavesOwn, OnlyCalls};
 
 use crate::hearing::place_without;
@@ -37,7 +37,7 @@ impl<'a, R: Wait> Place<'a, R> {
     ) -> Result<(), NoMemory>
         requires serves { ServesOn self.now parts.old own.old }
         ensures calls { OnlyCalls parts.old parts.new own.old own.new }
-        ensures plays { OnOk result (PlaysOn self.now (reacted self.now.script.now now p.now) own.old own.new parts.old parts.new) }
+        ensures plays { OnOk result (PlayStep self.now (reacted self.now.script.now now p.now) own.old own.new parts.old parts.new) }
     {
         for (place, rule) in self.script.rules.as_slice().iter().enumerate() {
             self.fire(parts, own, p, place, rule, now)?;
@@ -58,7 +58,7 @@ impl<'a, R: Wait> Place<'a, R> {
         requires one { slice_get self.now.script.now.rules place ≡ Some rule.now }
         requires serves { ServesOn self.now parts.old own.old }
         ensures calls { OnlyCalls parts.old parts.new own.old own.new }
-        ensures plays { OnOk result (PlaysOn self.now (rule_met self.now.script.now now p.now place rule.now) own.old own.new parts.old parts.new) }
+        ensures plays { OnOk result (PlayStep self.now (rule_met self.now.script.now now p.now place rule.now) own.old own.new parts.old parts.new) }
     {
         if p.handler != rule.handler || p.what != rule.what {
             return Ok(());
@@ -74,7 +74,7 @@ impl<'a, R: Wait> Place<'a, R> {
         requires one { (place : ℕ) × (slice_get self.now.script.now.rules place ≡ Some rule.now) }
         requires serves { ServesOn self.now parts.old own.old }
         ensures calls { OnlyCalls parts.old parts.new own.old own.new }
-        ensures plays { OnOk result (PlaysOn self.now
+        ensures plays { OnOk result (PlayStep self.now
             (λ a. record a { sent = a.sent ++ reaction self.now.script.now now rule.now ∷ [] }) own.old own.new parts.old parts.new) }
     {
         let looper = looper_of(self.script, rule.to_handler);
@@ -92,7 +92,7 @@ impl<'a, R: Wait> Place<'a, R> {
         ensures leaves { LeavesOwn own.old own.new }
         ensures untimed { AddsUntimed own.old.poster.now own.new.poster.now }
         ensures plays { (parts : PartsData) (timing : Timing)
-            → OnOk result (PlaysOn self.now (with_call self.now.looper (plain (Posts post.now)) timing) own.old own.new parts parts) }
+            → OnOk result (PlayStep self.now (with_call self.now.looper (bare_call (Posts post.now)) timing) own.old own.new parts parts) }
         ensures acts { own.new.journal.now.acts ≡ own.old.journal.now.acts }
     {
         let mut way = Way {
@@ -118,7 +118,7 @@ impl<'a, R: Wait> Place<'a, R> {
         ensures calls { OnlyCalls parts.old parts.new own.old own.new }
         ensures seen { own.new.poster.now ≡ own.old.poster.now }
         ensures plays { (timing : Timing)
-            → OnOk result (PlaysOn self.now (with_call looper (plain (Posts post.now)) timing) own.old own.new parts.old parts.new) }
+            → OnOk result (PlayStep self.now (with_call looper (bare_call (Posts post.now)) timing) own.old own.new parts.old parts.new) }
     {
         let place = looper as usize;
         if place >= self.hall.queues.len() {
@@ -141,7 +141,7 @@ impl<'a, R: Wait> Place<'a, R> {
         ensures poster { badge_of poster.new ≡ badge_of poster.old }
         ensures leaves { LeavesOwn own.old own.new }
         ensures untimed { AddsUntimed poster.old poster.new }
-        ensures made { OnOk result (Makes poster.old poster.new (plain (Posts post.now)) []) }
+        ensures made { OnOk result (Makes poster.old poster.new (bare_call (Posts post.now)) []) }
         ensures acts { own.new.journal.now.acts ≡ own.old.journal.now.acts }
         ensures seen { own.new.poster.now ≡ own.old.poster.now }
     {

@@ -7,7 +7,7 @@ ghost use Rattle.dash_loopers.specs.Played.{standing, paint_of, paint_of_gauge};
 ghost use Rattle.dash_script.specs.declared.script.Script.{Script as ScriptData};
 ghost use Rattle.dash_script.specs.Reading.{HasText};
 ghost use Rattle.run_model.specs.Planned.{traversal_phase};
-ghost use Rattle.run_model.specs.Loopers.{object_set, traversal_requested, traversal_ran, callback_ran, and_posts_frame, paints, moved as moved_by};
+ghost use Rattle.run_model.specs.Loopers.{object_set, traversal_requested, traversal_ran, callback_ran, and_posts_frame, paints, stepped_towards as moved_by};
 ghost use Rattle.dash_loopers.specs.Steps.{ShowsBy, LeavesRoot};
 
 use choreographer::{Choreographer, FramePass};

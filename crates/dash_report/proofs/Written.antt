@@ -17,7 +17,7 @@ use Rattle.fate_ledger.proofs.Parts.{entries_taken}
 use Rattle.frame_phases.specs.declared.entry.FrameEntry.{FrameEntry}
 use Rattle.frame_phases.specs.declared.entry.FrameRecord.{FrameRecord}
 use Rattle.run_model.specs.Planned.{history_of}
-use Rattle.run_model.specs.Text.{Words, history_lines, fates_line, act_lines, frame_lines, looper_lines, loopers_lines, line_text}
+use Rattle.run_model.specs.Text.{LineWords, history_lines, fates_line, act_lines, frame_lines, looper_lines, loopers_lines, line_text}
 use Rattle.run_model.specs.Summary.{accepted_in, dispatched_in, frames_in, paints_in, summary, summary_lines}
 use Rattle.run_model.specs.declared.report.Report.{Report}
 
@@ -39,7 +39,7 @@ pub all_parts : (ps : List Segment) (i : ℕ) → i ≡ length ps → entries_of
 all_parts ps i all = ap (λ n. entries_of (take n ps)) all ∙ ap entries_of (take-length ps)
 
 -- what more entries have written
-pub entries_written : (f : Entry → List Words) (out : List ℕ) (es more : List Entry)
+pub entries_written : (f : Entry → List LineWords) (out : List ℕ) (es more : List Entry)
     → (out ++ flat_map line_text (flat_map f es)) ++ flat_map line_text (flat_map f more) ≡ out ++ flat_map line_text (flat_map f (es ++ more))
 entries_written f out es more =
     append_assoc out (flat_map line_text (flat_map f es)) (flat_map line_text (flat_map f more))

@@ -9,7 +9,7 @@ use loop_model::{NoMemory, Segment};
 use std::alloc::Global;
 use std::fmt::Write;
 
-/// Writes the line of the fates of a history in these parts. It is refused only for want of memory. The form is this project's
+/// Writes the line of the fates of a history in these parts. It is refused only when out of memory. The form is this project's
 /// profile.
 pub fn write_fates(alloc: Global, out: &mut String, segments: &[Segment]) -> Result<(), NoMemory>
     ensures { OnOk result (string_bytes out.new

@@ -3,7 +3,7 @@ ghost use Rattle.std.specs.Prelude.{◌≡◌, ◌++◌, Some, IfOk, OnOk, slice
 ghost use Rattle.std.specs.List.{join_with_byte, flat_map};
 ghost use Rattle.loop_model.specs.Chain.{entries_of};
 ghost use Rattle.loop_model.specs.Posts.{accepted_post, accepted_posts};
-ghost use Rattle.run_model.specs.Text.{subject, call_lines, history_lines, line_text};
+ghost use Rattle.run_model.specs.Text.{post_subject, call_lines, history_lines, line_text};
 ghost use Rattle.run_model.specs.Parts.{dispatch_words};
 
 use loop_model::{Call, Entry, NoMemory, Post, Reply, Segment};
@@ -16,7 +16,7 @@ use std::fmt::Write;
 struct Subject(Post);
 
 impl fmt::Display for Subject {
-    ghost output = { λ s. Some (join_with_byte 32 (subject s.0)) };
+    ghost output = { λ s. Some (join_with_byte 32 (post_subject s.0)) };
 
     fn fmt<W: fmt::Write>(&self, f: &mut fmt::Formatter<W>) -> fmt::Result {
         let handler = self.0.handler;

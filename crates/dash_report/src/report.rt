@@ -1,7 +1,7 @@
 //! The report of a run.
 ghost use Rattle.std.specs.Prelude.{◌≡◌, ◌++◌, IfOk, OnOk, string_bytes};
 ghost use Rattle.std.specs.List.{flat_map};
-ghost use Rattle.run_model.specs.Text.{line_text, looper_lines, loopers_lines, text};
+ghost use Rattle.run_model.specs.Text.{line_text, looper_lines, loopers_lines, report_text};
 
 use crate::fates::write_fates;
 use crate::frames::write_frames;
@@ -54,10 +54,10 @@ fn write_loopers(
 
 /// The text of a report, as the program prints it. For each looper it has the dispatches, refusals and other answers of its queue
 /// in order, the counts of the fates of its accepted posts, what its journal shows, and its frames with the callbacks that they
-/// ran. It is refused only for want of memory. The form is this project's profile.
-#[tactic(auto, using(std::proofs::lemmas::List::append_assoc), unfolding(run_model::specs::Text::text, run_model::specs::Text::lines))]
+/// ran. It is refused only when out of memory. The form is this project's profile.
+#[tactic(auto, using(std::proofs::lemmas::List::append_assoc), unfolding(run_model::specs::Text::report_text, run_model::specs::Text::report_lines))]
 pub fn report_text(alloc: Global, report: &Report) -> Result<Vec<u8>, NoMemory>
-    ensures { IfOk result (λ bytes. bytes.items ≡ text report.now) }
+    ensures { IfOk result (λ bytes. bytes.items ≡ report_text report.now) }
 {
     let mut out = String::new(alloc);
     writeln!(out, "report {}", report.script.edition)?;

@@ -17,7 +17,7 @@ struct PostCounts {
     dispatched: u64,
 }
 
-/// The sum of two counts; one past the greatest `u64` counts as want of memory.
+/// The sum of two counts; one past the greatest `u64` counts as out of memory.
 fn sum(first: u64, second: u64) -> Result<u64, NoMemory>
     ensures { IfOk result (λ total. total ≡ first + second) }
 {

@@ -13,7 +13,7 @@ use Rattle.dash_script.specs.declared.form.Keyword.{Keyword}
 use Rattle.dash_script.specs.declared.form.Slot.{Slot}
 use Rattle.dash_script.specs.declared.form.Slot.TheVariants.{Word, Number}
 use Rattle.dash_script.specs.Form.{spelling, filled, numbers_of, with_number, said_among}
-use Rattle.line_words.specs.Words.{number_of}
+use Rattle.line_words.specs.Words.{spelled_number}
 use Rattle.line_words.proofs.Spelling.{number_taken, number_again}
 use Rattle.dash_script.specs.Writing.{hole_count}
 use Rattle.dash_script.specs.Laws.{AllSmall}
@@ -38,7 +38,7 @@ numbers_taken (Word k ∷ slots) (w ∷ ws) ns e =
       | inr other ↦ absurd (none-some ns (rw other at e))
     ]
 numbers_taken (Number r ∷ slots) (w ∷ ws) ns e =
-    let p = number_first slots w ws (number_of w) (numbers_of slots ws) ns (λ n h. number_taken w n h) (λ ms h. numbers_taken slots ws ms h) e in
+    let p = number_first slots w ws (spelled_number w) (numbers_of slots ws) ns (λ n h. number_taken w n h) (λ ms h. numbers_taken slots ws ms h) e in
     ap (filled (Number r ∷ slots)) p.2 ∙ ap (λ x. x ∷ filled slots p.1) (sym p.3) ∙ ap (λ t. w ∷ t) p.4
 
 same_bytes : (w : List ℕ) → bytes_eq w w ≡ true
@@ -56,8 +56,8 @@ numbers_again (Number r ∷ slots) (n ∷ ns) whole small = rw (number_again n s
 -- no word fits both
 unfoldable pub clash_slot : Slot → Slot → Bool
 clash_slot (Word a) (Word b) = not (bytes_eq (spelling b) (spelling a))
-clash_slot (Word a) (Number r) = is_none (number_of (spelling a))
-clash_slot (Number r) (Word b) = is_none (number_of (spelling b))
+clash_slot (Word a) (Number r) = is_none (spelled_number (spelling a))
+clash_slot (Number r) (Word b) = is_none (spelled_number (spelling b))
 clash_slot (Number r) (Number q) = false
 
 -- no words have both forms
@@ -75,10 +75,10 @@ none_number : (o : Option ℕ) (p : Option (List ℕ)) → p ≡ None → with_n
 none_number None p e = refl
 none_number (Some n) p e = ap (with_number (Some n)) e
 
-not_decimal : (a : Keyword) (n : ℕ) → n < 2 ^ 64 → number_of (spelling a) ≡ None → bytes_eq (decimal n) (spelling a) ≡ false
+not_decimal : (a : Keyword) (n : ℕ) → n < 2 ^ 64 → spelled_number (spelling a) ≡ None → bytes_eq (decimal n) (spelling a) ≡ false
 not_decimal a n lt none =
     elim (cases_Bool (bytes_eq (decimal n) (spelling a))) [
-      | inl same ↦ absurd (none-some n (sym none ∙ ap number_of (sym ((bytes_eq-Decides (decimal n) (spelling a)).0 same)) ∙ number_again n lt))
+      | inl same ↦ absurd (none-some n (sym none ∙ ap spelled_number (sym ((bytes_eq-Decides (decimal n) (spelling a)).0 same)) ∙ number_again n lt))
       | inr other ↦ other
     ]
 
@@ -97,20 +97,20 @@ clash_none (Word a ∷ f) (Word b ∷ g) ns h whole small =
     ]
 clash_none (Word a ∷ f) (Number r ∷ g) [] h whole small = absurd (omega arith)
 clash_none (Word a ∷ f) (Number r ∷ g) (n ∷ ns) h whole small =
-    elim (or_cases (is_none (number_of (spelling a))) (clash f g) h) [
-      | inl none ↦ rw (not_decimal a n small.0 (none_is (number_of (spelling a)) none)) refl
+    elim (or_cases (is_none (spelled_number (spelling a))) (clash f g) h) [
+      | inl none ↦ rw (not_decimal a n small.0 (none_is (spelled_number (spelling a)) none)) refl
       | inr later ↦ none_either (bytes_eq (decimal n) (spelling a)) (numbers_of f (filled g ns)) (clash_none f g ns later (omega arith) small.1)
     ]
 clash_none (Number r ∷ f) (Word b ∷ g) ns h whole small =
-    elim (or_cases (is_none (number_of (spelling b))) (clash f g) h) [
-      | inl none ↦ rw (none_is (number_of (spelling b)) none) refl
-      | inr later ↦ none_number (number_of (spelling b)) (numbers_of f (filled g ns)) (clash_none f g ns later whole small)
+    elim (or_cases (is_none (spelled_number (spelling b))) (clash f g) h) [
+      | inl none ↦ rw (none_is (spelled_number (spelling b)) none) refl
+      | inr later ↦ none_number (spelled_number (spelling b)) (numbers_of f (filled g ns)) (clash_none f g ns later whole small)
     ]
 clash_none (Number r ∷ f) (Number q ∷ g) [] h whole small = absurd (omega arith)
 clash_none (Number r ∷ f) (Number q ∷ g) (n ∷ ns) h whole small =
     elim (or_cases false (clash f g) h) [
       | inl never ↦ absurd cc
-      | inr later ↦ none_number (number_of (decimal n)) (numbers_of f (filled g ns)) (clash_none f g ns later (omega arith) small.1)
+      | inr later ↦ none_number (spelled_number (decimal n)) (numbers_of f (filled g ns)) (clash_none f g ns later (omega arith) small.1)
     ]
 
 -- ---- several kinds

@@ -19,9 +19,9 @@ use Rattle.dash_script.specs.declared.script.Block.{Block}
 use Rattle.dash_script.specs.declared.script.Script.{Script}
 use Rattle.dash_script.specs.declared.statement.Statement.{Statement}
 use Rattle.dash_script.specs.Form.{form}
-use Rattle.dash_script.specs.Text.{say, line_of, command_line, handler_line, gauge_line, rule_line, block_lines, first_lines, lines_before_end, lines}
+use Rattle.dash_script.specs.Text.{say, line_statement, command_line, handler_statement, gauge_statement, rule_line, block_lines, opening_lines, lines_before_end, script_lines}
 use Rattle.dash_script.specs.Causes.{commands, each_number, numbers_pass, is_within, is_declared, phase_count, is_label, has_barrier, steps_for}
-use Rattle.dash_script.specs.Reading.{HasText, label_fits, labels_fit, rise}
+use Rattle.dash_script.specs.Reading.{HasText, label_fits, labels_fit, times_rise}
 use Rattle.dash_script.specs.Editions.{phase_up, command_up, block_up, up}
 use Rattle.dash_script.specs.FromEdition.{command_from, line_from, block_from}
 use Rattle.dash_script.proofs.Holding.{each_kept, all_kept}
@@ -72,10 +72,10 @@ module _ (t u : Role → ℕ → Bool) (kept : (r : Role) (n : ℕ) → t r n �
       let f = and_parts (t (Within 0 999999) i) _ c.1 in
       and_from _ _ (kept Thread p a.0) (and_from _ _ (kept Looper l b.0) (and_from _ _ (phases q c.0) (and_from _ _ (kept (Within 0 999999) i f.0) refl)))
 
-  lines_pass : (ls : List Line) → list_all (numbers_pass t) (map line_of ls) ≡ true → list_all (numbers_pass u) (map line_of (lines_up ls)) ≡ true
+  lines_pass : (ls : List Line) → list_all (numbers_pass t) (map line_statement ls) ≡ true → list_all (numbers_pass u) (map line_statement (lines_up ls)) ≡ true
   lines_pass [] h = refl
   lines_pass (l ∷ ls) h =
-      let p = and_parts (numbers_pass t (line_of l)) (list_all (numbers_pass t) (map line_of ls)) h in
+      let p = and_parts (numbers_pass t (line_statement l)) (list_all (numbers_pass t) (map line_statement ls)) h in
       and_from _ _ (command_passes l.thread l.command p.0) (lines_pass ls p.1)
 
   both : (xs ys : List Statement) → list_all (numbers_pass u) xs ≡ true → list_all (numbers_pass u) ys ≡ true → list_all (numbers_pass u) (xs ++ ys) ≡ true
@@ -85,26 +85,26 @@ module _ (t u : Role → ℕ → Bool) (kept : (r : Role) (n : ℕ) → t r n �
   blocks_pass [] h = refl
   blocks_pass (b ∷ bs) h =
       let p = list_parts (numbers_pass t) (block_lines b) (flat_map block_lines bs) h in
-      let a = and_parts (numbers_pass t (say kind.At (b.time ∷ []))) (list_all (numbers_pass t) (map line_of b.lines)) p.0 in
+      let a = and_parts (numbers_pass t (say kind.At (b.time ∷ []))) (list_all (numbers_pass t) (map line_statement b.lines)) p.0 in
       both (block_lines (block_up b)) (flat_map block_lines (map block_up bs))
       (and_from _ _ (each_kept t u 0 (form kind.At) (b.time ∷ []) kept a.0) (lines_pass b.lines a.1)) (blocks_pass bs p.1)
 
-  first_pass : (s : Script) → list_all (numbers_pass t) (first_lines s) ≡ true → list_all (numbers_pass u) (first_lines (brought s)) ≡ true
+  first_pass : (s : Script) → list_all (numbers_pass t) (opening_lines s) ≡ true → list_all (numbers_pass u) (opening_lines (brought s)) ≡ true
   unfolding each_number
   first_pass s h =
       let p = and_parts (numbers_pass t (say (cond (eqb s.edition 2) kind.Edition2 kind.Edition1) [])) _ h in
       all_kept t u (say kind.Loopers (s.loopers ∷ []) ∷ say kind.Threads (s.threads ∷ []) ∷ []) kept p.1
 
-  all_pass : (s : Script) → list_all (numbers_pass t) (lines s) ≡ true → list_all (numbers_pass u) (lines (brought s)) ≡ true
+  all_pass : (s : Script) → list_all (numbers_pass t) (script_lines s) ≡ true → list_all (numbers_pass u) (script_lines (brought s)) ≡ true
   unfolding lines_before_end
   all_pass s h =
-      let hs = map handler_line (enumerate_from 0 s.handlers) in
-      let gs = map gauge_line (enumerate_from 0 s.gauges) in
+      let hs = map handler_statement (enumerate_from 0 s.handlers) in
+      let gs = map gauge_statement (enumerate_from 0 s.gauges) in
       let v = say kind.Vsync (s.period ∷ []) ∷ [] in
       let rs = map rule_line s.rules in
       let bs = flat_map block_lines (map block_up s.blocks) in
       let e = say kind.End (s.end ∷ []) ∷ [] in
-      let f = first_lines (brought s) in
+      let f = opening_lines (brought s) in
       let ok = sections (λ sts. list_all (numbers_pass t) sts ≡ true) s (list_parts (numbers_pass t)) h in
       both (f ++ hs ++ gs ++ v ++ rs ++ bs) e (both (f ++ hs ++ gs ++ v ++ rs) bs (both (f ++ hs ++ gs ++ v) rs (both (f ++ hs ++ gs) v (both (f ++ hs) gs (both f hs
       (first_pass s ok.first) (all_kept t u hs kept ok.handlers)) (all_kept t u gs kept ok.gauges)) (all_kept t u v kept ok.vsync)) (all_kept t u rs kept ok.rules))
@@ -194,7 +194,7 @@ all_times : (p : ℕ → Bool) (bs : List Block) → list_all (λ b. p b.time) (
 all_times p [] = refl
 all_times p (b ∷ bs) = ap (λ (t : Bool). p b.time && t) (all_times p bs)
 
-rise_up : (bs : List Block) → rise (map block_up bs) ≡ rise bs
+rise_up : (bs : List Block) → times_rise (map block_up bs) ≡ times_rise bs
 rise_up [] = refl
 rise_up (b ∷ bs) = (λ i. (all_times (λ n. ltb b.time n) bs i && rise_up bs i))
 
@@ -227,22 +227,22 @@ blocks_length : (bs : List Block) → length (flat_map block_lines (map block_up
 blocks_length [] = refl
 blocks_length (b ∷ bs) =
     let rest = blocks_length bs in
-    let one = length-map (lines_up b.lines) line_of in
+    let one = length-map (lines_up b.lines) line_statement in
     let two = length-map b.lines line_up in
-    let three = length-map b.lines line_of in
-    let all = length-append (map line_of (lines_up b.lines)) (flat_map block_lines (map block_up bs)) in
-    let before = length-append (map line_of b.lines) (flat_map block_lines bs) in
+    let three = length-map b.lines line_statement in
+    let all = length-append (map line_statement (lines_up b.lines)) (flat_map block_lines (map block_up bs)) in
+    let before = length-append (map line_statement b.lines) (flat_map block_lines bs) in
     omega (arith, rest, one, two, three, all, before)
 
-lines_length : (s : Script) → length (lines (brought s)) ≡ length (lines s)
+lines_length : (s : Script) → length (script_lines (brought s)) ≡ length (script_lines s)
 unfolding lines_before_end
 lines_length s =
     let e = say kind.End (s.end ∷ []) ∷ [] in
-    let rest = map handler_line (enumerate_from 0 s.handlers) in
+    let rest = map handler_statement (enumerate_from 0 s.handlers) in
     let bs = flat_map block_lines s.blocks in
     let bs' = flat_map block_lines (map block_up s.blocks) in
-    let before = first_lines s ++ rest ++ map gauge_line (enumerate_from 0 s.gauges) ++ say kind.Vsync (s.period ∷ []) ∷ [] ++ map rule_line s.rules in
-    let before' = first_lines (brought s) ++ rest ++ map gauge_line (enumerate_from 0 s.gauges) ++ say kind.Vsync (s.period ∷ []) ∷ [] ++ map rule_line s.rules in
+    let before = opening_lines s ++ rest ++ map gauge_statement (enumerate_from 0 s.gauges) ++ say kind.Vsync (s.period ∷ []) ∷ [] ++ map rule_line s.rules in
+    let before' = opening_lines (brought s) ++ rest ++ map gauge_statement (enumerate_from 0 s.gauges) ++ say kind.Vsync (s.period ∷ []) ∷ [] ++ map rule_line s.rules in
     let same : length before' ≡ length before = refl in
     let a = length-append (before ++ bs) e in
     let b = length-append (before' ++ bs') e in

@@ -14,13 +14,13 @@ use Rattle.dash_script.specs.declared.script.Script.{Script}
 use Rattle.dash_script.specs.declared.statement.Statement.{Statement}
 use Rattle.line_words.specs.Refusing.{Language, IsTextOf, IsRefusalOf, form_or}
 use Rattle.dash_script.specs.Form.{part, statement_of}
-use Rattle.dash_script.specs.Causes.{Draft, cause_of}
+use Rattle.dash_script.specs.Causes.{ScriptSoFar, statement_cause}
 
 -- ---- what each line adds
 
 -- nothing is read yet
-abbrev pub start : Draft
-start = record {
+abbrev pub empty_draft : ScriptSoFar
+empty_draft = record {
   script = record { edition = 0; loopers = 0; threads = 0; handlers = []; gauges = []; period = 0; rules = []; blocks = []; end = 0 };
   last = part_of.Start;
 }
@@ -77,7 +77,7 @@ added s kind.End ns = record s { end = slice_index ns 0 }
 added s k ns = record s { blocks = with_command s.blocks (record { thread = slice_index ns 0; command = command_of k ns }) }
 
 -- what the lines so far hold with one more
-unfoldable pub with_line : Draft → Statement → Draft
+unfoldable pub with_line : ScriptSoFar → Statement → ScriptSoFar
 with_line d st = record { script = added d.script st.kind st.numbers; last = part st.kind }
 
 -- ---- why a line may not come next, and what a text is
@@ -88,23 +88,23 @@ is_end part_of.End = true
 is_end _ = false
 
 -- the first cause for which what line k says may not come next
-abbrev pub line_cause : ℕ → Draft → Option Statement → Option Cause
-line_cause k d said = if nat_lt 20000 k then Some cause.TooMany else form_or cause.Form (cause_of d) said
+abbrev pub line_cause : ℕ → ScriptSoFar → Option Statement → Option Cause
+line_cause k d said = if nat_lt 20000 k then Some cause.TooMany else form_or cause.Form (statement_cause d) said
 
 -- why the text may not stop at line k, where a piece without a line feed is left
-abbrev pub stop_cause : ℕ → Draft → List ℕ → Option Cause
+abbrev pub stop_cause : ℕ → ScriptSoFar → List ℕ → Option Cause
 stop_cause k d rest =
     if length rest == 0 && is_end d.last then None
     else Some (if nat_lt 20000 k then cause.TooMany else (if length rest == 0 then cause.Missing else cause.Form))
 
 -- the language of scripts
-abbrev pub scripts : Language Statement Draft Script Cause
-scripts = record { start = start; line_of = statement_of; next = with_line; cause = line_cause; stop = stop_cause; whole = λ d. d.script }
+abbrev pub scripts : Language Statement ScriptSoFar Script Cause
+scripts = record { start = empty_draft; line_of = statement_of; next = with_line; cause = line_cause; stop = stop_cause; whole = λ d. d.script }
 
 -- b is a text of this script
-abbrev pub IsText : List ℕ → Script → Type 0
-IsText = IsTextOf scripts
+abbrev pub IsScriptText : List ℕ → Script → Type 0
+IsScriptText = IsTextOf scripts
 
 -- this is the least line of the text, counted from 1, that has a cause, and this is the first cause that it has
-abbrev pub IsRefusal : List ℕ → ℕ → Cause → Type 0
-IsRefusal = IsRefusalOf scripts
+abbrev pub IsScriptRefusal : List ℕ → ℕ → Cause → Type 0
+IsScriptRefusal = IsRefusalOf scripts

@@ -22,9 +22,9 @@ use Rattle.dash_stage.specs.Controllers.{CallsNone}
 use Rattle.dash_stage.specs.Moves.{MayBeMovedTo}
 use Rattle.dash_stage.specs.Playing.{LiesAhead, EachPlaysOn, AreStuck}
 use Rattle.dash_stage.specs.Sharing.{HaveHeardTheSame, HaveShared}
-use Rattle.dash_stage.specs.Stages.{IsStage, RunOn, AreLoopers, LoopersGoOn}
-use Rattle.dash_stage.specs.Steps.{StageAt, RestsAt, StillAt, StaysAt, ComesBefore, BeginsBlock, IsReadyFor, RunsNext, IsUnderWay, StandsStill, OnlyLooked, RestsUnlessGrown}
-use Rattle.dash_stage.specs.Timeliness.{whole_on, AreSound, AreBy, AreRested, AreDue, NotLater, EachTurnsOn, MovesTo, MovesNot, HaveCome}
+use Rattle.dash_stage.specs.Stages.{IsStage, EachRunsBlock, AreLoopers, LoopersGoOn}
+use Rattle.dash_stage.specs.Steps.{StageAt, RestsAt, StillAt, StaysAt, TimeLiesAhead, BeginsBlock, IsReadyFor, StageRunsBlock, IsUnderWay, StandsStill, OnlyLooked, RestsUnlessGrown}
+use Rattle.dash_stage.specs.Timeliness.{whole_on, AreSound, AreBy, AreRested, AreDue, NotLater, EachTurnsOn, MovesTo, MovesNot, HaveReachedTime}
 use Rattle.dash_stage.specs.Turns.{AtTurn, IsTheSame, HaveTakenTurns}
 use Rattle.dash_stage.proofs.BlockTimes.Blocks.{run_one_more}
 use Rattle.dash_stage.proofs.Controller.ControlKept.{none_after, moving_kept, by_kept}
@@ -90,7 +90,7 @@ stays_then s a b c first next past at =
     record { at = two.at; sound = λ sound. one.sound (two.sound sound) }
 
 -- before a time that lies ahead still, after an earlier one
-pub before_on : (s : Script) (past : List Block) (time next : ℕ) (st st' : Stage) → (AreSound s st'.controller → LiesAhead time st × (next < time)) → st'.time ≡ max st.time next → StageAt s past st' → ComesBefore s past time st'
+pub before_on : (s : Script) (past : List Block) (time next : ℕ) (st st' : Stage) → (AreSound s st'.controller → LiesAhead time st × (next < time)) → st'.time ≡ max st.time next → StageAt s past st' → TimeLiesAhead s past time st'
 before_on s past time next st st' ahead now at = record {
   ahead = λ sound. let was = ahead sound in ahead_on time next st st' was.1 now was.0;
   turn = rounds_before s past time st' (λ sound. let was = ahead sound in let earlier = was.1 in let lt = ahead_less time next st earlier was.0 in omega (arith, lt, earlier, now)) at.asks;
@@ -129,7 +129,7 @@ ready_by s past next last due st st' is looked planned one early none reason res
 -- then it was moved on from where it stood
 pub advanced_by : (s : Script) (past : List Block) (time : ℕ) (st mid st' : Stage) (drained : Bool) → HaveShared s mid st' → (ready : IsReadyFor s past time st) → mid.threads.items ≡ st.threads.items → mid.loopers.items ≡ st.loopers.items
     → EachTurnsOn (MovesTo time) st.controller mid.controller → st'.time ≡ max st.time time → AreBy st'.time mid.controller
-    → (drained ≡ true → HaveCome s time mid.controller) → (drained ≡ false → AreStuck s time s.loopers mid.controller) → MovedOn s time ready.stood mid.controller st' drained
+    → (drained ≡ true → HaveReachedTime s time mid.controller) → (drained ≡ false → AreStuck s time s.loopers mid.controller) → MovedOn s time ready.stood mid.controller st' drained
 advanced_by s past time st mid st' drained shared ready threads loopers turns now by come stuck =
     let looked = ready.looked in
     let at = ready.rests.at in
@@ -162,7 +162,7 @@ module _ {s : Script} {time : ℕ} {st : Stage} {c : Controller} {st' : Stage} {
   }
 
   -- and begins a block where the time lay ahead
-  pub advanced_begins : ComesBefore s past time st → BeginsBlock s past time st'
+  pub advanced_begins : TimeLiesAhead s past time st → BeginsBlock s past time st'
   advanced_begins before = record {
     queues = λ sound. advanced_at_block a (before.ahead (sound_by_turns a.over sound)) sound;
     turn = asks_nothing s st st' a.over.is a.over.is' heard (sound_by_turns a.over) a.over.loopers a.over.threads past (in_block time) before.turn.asked;
@@ -174,8 +174,8 @@ abbrev pub with_threads : Stage → Vec PostingThread → Stage
 with_threads st v = record { hall = st.hall; threads = v; loopers = st.loopers; controller = st.controller; pass = st.pass; time = st.time }
 
 -- where the threads ran a block that was the next, and all shared then, the stage has run it
-pub block_next : (s : Script) → HasText s → (st st' : Stage) (ran : List PostingThread) (v : Vec PostingThread) (b : Block) → IsStage s st → v.items ≡ ran → length ran ≡ length st.threads.items → RunOn s b st.threads.items ran
-    → HaveShared s (with_threads st v) st' → RunsNext s b st st'
+pub block_next : (s : Script) → HasText s → (st st' : Stage) (ran : List PostingThread) (v : Vec PostingThread) (b : Block) → IsStage s st → v.items ≡ ran → length ran ≡ length st.threads.items → EachRunsBlock s b st.threads.items ran
+    → HaveShared s (with_threads st v) st' → StageRunsBlock s b st st'
 block_next s text st st' ran v b is wrote many on shared past rest was =
     let kept = shared.kept in
     let posters = kept.controller.posters in

@@ -12,7 +12,7 @@ use Rattle.dash_threads.specs.declared.thread.PostingThread.{PostingThread}
 use Rattle.dash_threads.specs.Threads.{IsThread, AreByClock, RunsAll, ThreadKeeps}
 use Rattle.dash_loopers.specs.declared.looper.StageLooper.{StageLooper}
 use Rattle.dash_loopers.specs.Loopers.{IsLooper}
-use Rattle.dash_loopers.specs.Looped.{GoesOnFrom, HasGoneRound, LoopsOnce, LoopsUpTo, ends_at, HasLooped}
+use Rattle.dash_loopers.specs.Looped.{GoesOnFrom, HasGoneRound, LoopsToPulse, LoopsUntilStopped, ends_at, HasLooped}
 use Rattle.dash_script.specs.Reading.{HasText}
 use Rattle.dash_hall.specs.Kits.{IsHall}
 use Rattle.dash_hall.specs.Hearing.{AtEach, HaveHeard, AreKept}
@@ -33,7 +33,7 @@ pub record RunsByClock (m : Mode) (s : Script) (hall : Hall) (before after : Pos
 -- the looper has gone on by the clock, and looped up to this end, or stopped by this look
 pub record LoopsFor (m : Mode) (s : Script) (hall : Hall) (end : Option ℕ) (look : Option Bool) (before after : StageLooper) : Type 0 where
   pub goes : HasLooped m s hall before after
-  pub loops : LoopsUpTo m s end before after look
+  pub loops : LoopsUntilStopped m s end before after look
 
 -- so it is with a looper that loops without an end, and whose look is nobody's
 abbrev pub LoopsAlone : Mode → Script → Hall → StageLooper → StageLooper → Type 0
@@ -45,7 +45,7 @@ pub record LoopsToEnd (m : Mode) (s : Script) (before after : StageLooper) : Typ
   pub between : StageLooper
   pub rounds : HasGoneRound m s (Some s.end) count before between
   pub how : Loop
-  pub loops : LoopsOnce m s (Some s.end) between after how
+  pub loops : LoopsToPulse m s (Some s.end) between after how
   pub at_end : ends_at how (Some s.end) ≡ true
 
 -- a looper looped by the clock until its queue was over
@@ -92,9 +92,9 @@ MainLoops m s hall before after = AtEach (LoopsFor m s hall (Some s.end) None) b
 
 -- the first, main, looped up to the script's end, or has ended or given up, and each other looped alone
 pub record LoopSideBySide (m : Mode) (s : Script) (before after : List StageLooper) : Type 0 where
-  pub main : (d : StageLooper) → 0 < length before → LoopsUpTo m s (Some s.end) (slice_index_or before 0 d) (slice_index_or after 0 d) None
+  pub main : (d : StageLooper) → 0 < length before → LoopsUntilStopped m s (Some s.end) (slice_index_or before 0 d) (slice_index_or after 0 d) None
   pub others : (k : ℕ) (d : StageLooper) → 0 < k → k < length before
-      → (look : Option Bool) × LoopsUpTo m s None (slice_index_or before k d) (slice_index_or after k d) look
+      → (look : Option Bool) × LoopsUntilStopped m s None (slice_index_or before k d) (slice_index_or after k d) look
 
 -- each looper looped by the clock from before its first act, main up to the script's end and each other until its queue was over, and has gone on from there
 pub record HaveLooped (m : Mode) (s : Script) (ls : List StageLooper) : Type 0 where

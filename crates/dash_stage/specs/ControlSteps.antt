@@ -5,14 +5,14 @@ use Rattle.message_pool.specs.Passes.{Tally}
 use Rattle.shared_queue.specs.Known.{Shared, IsOf}
 use Rattle.dash_script.specs.declared.script.Script.{Script}
 use Rattle.looper_run.specs.Holding.{Sender}
-use Rattle.choreographer.specs.Known.{Shared as Frames, Known as Pass, IsOf as IsOfFrames}
+use Rattle.choreographer.specs.Known.{SharedFrames, Pass, IsPassOf}
 use Rattle.run_model.specs.Control.{ends_halted, IsPulseTime}
 use Rattle.dash_hall.specs.declared.hall.Hall.{Hall}
 use Rattle.dash_stage.specs.declared.control.Controller.{Controller}
 use Rattle.dash_stage.specs.Controllers.{IsController, IsControllerIn, CanTurn, TurnsAlone, CallsNone, LooksFor, OtherPassesStay}
 use Rattle.dash_stage.specs.Controllers.{IsMoving, HasReached, IsQuitting, HasClosedIn, AtPoster, calls_on, time_in}
 use Rattle.dash_stage.specs.Playing.{IsStuck, AreStuck}
-use Rattle.dash_stage.specs.Timeliness.{whole_on, AreBy, TurnsOn, EachTurnsOn, IsNone, Halts, MovesTo, MovesNot, HaveCome, HasComeOn}
+use Rattle.dash_stage.specs.Timeliness.{whole_on, AreBy, TurnsOn, EachTurnsOn, IsNoEntry, IsHaltEntry, MovesTo, MovesNot, HaveReachedTime, HasReachedTime}
 
 -- the controller may move the time of the queue at this place on to this one
 pub record CanMove (s : Script) (hall : Hall) (place now : ℕ) (c : Controller) : Type 0 where
@@ -43,8 +43,8 @@ pub record CanHandOut (p : Sender) (q : Shared TableId) : Type 0 where
   pub last : p.sender + 1 ≡ q.constants.setting.senders
 
 -- this pass, the last of its choreographer, may have it hand its entries out
-pub record CanHandOutFrames (p : Pass) (c : Frames) : Type 0 where
-  pub pass : IsOfFrames p c
+pub record CanHandOutFrames (p : Pass) (c : SharedFrames) : Type 0 where
+  pub pass : IsPassOf p c
   pub last : p.number + 1 ≡ c.constants.passes
   pub seals : c.constants.seals ≡ true
 
@@ -57,7 +57,7 @@ pub record StaysIdle (lockstep : Bool) (s : Script) (hall : Hall) (before after 
 pub record TurnsIdle (lockstep : Bool) (s : Script) (hall : Hall) (place : ℕ) (before after : Controller) : Type 0 where
   pub alone : TurnsAlone lockstep s hall place before after
   pub none : CallsNone before after
-  pub here : AtPoster (TurnsOn IsNone) place before after
+  pub here : AtPoster (TurnsOn IsNoEntry) place before after
 
 -- it is the script's controller still, and its posters are as before
 pub record KeepsPosters (s : Script) (hall : Hall) (before after : Controller) : Type 0 where
@@ -82,14 +82,14 @@ pub record KeepsPace (s : Script) (now : ℕ) (before after : Controller) : Type
 pub record HasAdvanced (s : Script) (now place : ℕ) (before after : Controller) (drained : Bool) : Type 0 where
   pub here : AtPoster (TurnsOn (MovesTo now)) place before after
   pub reached : drained ≡ true → place ≡ 0 → HasReached now after
-  pub come : drained ≡ true → HasComeOn s now place after
+  pub come : drained ≡ true → HasReachedTime s now place after
   pub stuck : drained ≡ false → (d : Sender) → IsStuck s now (whole_on after place d)
 
 -- so have all queues
 pub record HaveAdvanced (s : Script) (now : ℕ) (before after : Controller) (drained : Bool) : Type 0 where
   pub turns : EachTurnsOn (MovesTo now) before after
   pub reached : drained ≡ true → HasReached now after
-  pub come : drained ≡ true → HaveCome s now after
+  pub come : drained ≡ true → HaveReachedTime s now after
   pub stuck : drained ≡ false → AreStuck s now s.loopers after
 
 -- the queue at this place may have been quit, too, by turns that moved no time
@@ -105,6 +105,6 @@ pub record HasHaltedMain (lockstep : Bool) (s : Script) (c : Controller) : Type 
 -- it tried to halt main: that was done, or it may be tried again
 pub record TriesToHalt (lockstep : Bool) (MayTry : Controller → Type 0) (s : Script) (hall : Hall) (before after : Controller) (halted : Bool) : Type 0 where
   pub controller : IsControllerIn lockstep s hall after
-  pub turns : EachTurnsOn Halts before after
+  pub turns : EachTurnsOn IsHaltEntry before after
   pub going : halted ≡ false → MayTry after
   pub closed : halted ≡ true → HasHaltedMain lockstep s after

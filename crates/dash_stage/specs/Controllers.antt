@@ -9,7 +9,7 @@ use Rattle.loop_model.specs.Entries.{moment_of}
 use Rattle.loop_model.specs.Answers.{clock}
 use Rattle.dash_script.specs.declared.script.Script.{Script}
 use Rattle.looper_run.specs.Holding.{Sender}
-use Rattle.choreographer.specs.Known.{Known as Pass}
+use Rattle.choreographer.specs.Known.{Pass}
 use Rattle.choreographer.specs.Calls.{AskedBy}
 use Rattle.choreographer.specs.Ends.{HasHandedOut, entries_in}
 use Rattle.frame_phases.specs.declared.entry.FrameEntry.{FrameEntry}
@@ -22,8 +22,8 @@ use Rattle.dash_hall.specs.Growth.{own}
 use Rattle.dash_hall.specs.Kits.{IsHall, ArePostersOf, ArePassesOf, frame_badge_of}
 
 -- the parts that these posters handed out of their queues' histories, in order
-abbrev pub handed_out : List Sender → List (List Segment)
-handed_out posters = map (λ p. p.view.sealed) posters
+abbrev pub parts_handed_out : List Sender → List (List Segment)
+parts_handed_out posters = map (λ p. p.view.sealed) posters
 
 -- the parts that stand in these lists, in order
 abbrev pub parts_in : {A : Type 0} → List (Vec A) → List (List A)
@@ -44,7 +44,7 @@ pub record IsControllerIn (lockstep : Bool) (s : Script) (hall : Hall) (c : Cont
   pub pass : c.kit.pass.home ≡ hall.pool
   pub mode : hall.lockstep ≡ lockstep
   pub idle : (q : ℕ) (p : Pass) → q < length c.kit.frames.items → (slice_index_or c.kit.frames.items q p).view.own ≡ []
-  pub sealed : handed_out c.kit.posters.items ≡ parts_in c.sealed.items
+  pub sealed : parts_handed_out c.kit.posters.items ≡ parts_in c.sealed.items
   pub sealed_frames : HaveHandedOut c.kit.frames.items c.sealed_frames.items
 
 -- the same in lockstep

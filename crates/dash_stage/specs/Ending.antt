@@ -15,16 +15,16 @@ use Rattle.dash_script.specs.declared.script.Script.{Script}
 use Rattle.shared_queue.specs.Known.{Shared}
 use Rattle.shared_queue.specs.Constants.{Constants}
 use Rattle.looper_run.specs.Holding.{Sender}
-use Rattle.choreographer.specs.Known.{Shared as Frames, Known as Pass}
+use Rattle.choreographer.specs.Known.{SharedFrames, Pass}
 use Rattle.choreographer.specs.Ends.{AreHeard, HasHandedOut, entries_in}
-use Rattle.run_model.specs.Run.{setting_of}
+use Rattle.run_model.specs.Run.{record_setting}
 use Rattle.message_pool.specs.Passes.{Tally}
 use Rattle.dash_hall.specs.declared.hall.Hall.{Hall}
 use Rattle.dash_hall.specs.declared.kit.Kit.{Kit}
 use Rattle.dash_hall.specs.Kits.{IsHall, AreKitsOf, AreQueuesOf, AreChoreographersOf, frame_constants, frames_for}
 use Rattle.dash_hall.specs.Kits.{ArePostersOf, badge_of, badge_for, FrameBadge, frame_badge_of}
 use Rattle.dash_hall.specs.Dealing.{given_of}
-use Rattle.dash_stage.specs.Controllers.{handed_out, parts_in, HaveHandedOut}
+use Rattle.dash_stage.specs.Controllers.{parts_handed_out, parts_in, HaveHandedOut}
 use Rattle.dash_stage.specs.Records.{HasAllOf, passes_at}
 
 -- each kit has a poster
@@ -38,7 +38,7 @@ pub record IsNext (k : ℕ) (q : Shared TableId) (kit : Kit) : Type 0 where
 
 -- the last kit's posters, the controller's, handed out what stands in these lists, queue by queue
 abbrev pub AreSealed : List Kit → List (Vec Segment) → Type 0
-AreSealed kits lists = (k : ℕ) (d : Kit) → k + 1 ≡ length kits → handed_out (slice_index_or kits k d).posters.items ≡ parts_in lists
+AreSealed kits lists = (k : ℕ) (d : Kit) → k + 1 ≡ length kits → parts_handed_out (slice_index_or kits k d).posters.items ≡ parts_in lists
 
 -- the first of them handed these parts out
 abbrev pub HasSealedNext : List Kit → List Segment → Type 0
@@ -66,7 +66,7 @@ HaveAllPosters queues kits = (k : ℕ) (d : Kit) → k < length kits → ArePost
 -- what is kept of a queue with these constants: a lawful history
 pub record IsKeptOf (c : Constants TableId) (r : QueueRecord) : Type 0 where
   pub looper : r.looper ≡ c.looper
-  pub setting : setting_of r ≡ c.setting
+  pub setting : record_setting r ≡ c.setting
   pub chain : IsChainFrom (empty_base c.setting.senders) r.segments
   pub legal : IsLegal c.setting (empty_base c.setting.senders) (history_of r)
   pub numbered : AreNumbered c.setting (empty_base c.setting.senders) (history_of r)
@@ -104,12 +104,12 @@ pub record KeepFrames (before after : List Kit) : Type 0 where
   pub each : (k : ℕ) (d : Kit) → k < length before → KeepsFrames (slice_index_or before k d) (slice_index_or after k d)
 
 -- the passes that each kit has begin with those of this looper's choreographer
-abbrev pub BeginWithPasses : Script → ℕ → Frames → List Kit → Type 0
+abbrev pub BeginWithPasses : Script → ℕ → SharedFrames → List Kit → Type 0
 BeginWithPasses s looper c kits =
     (k : ℕ) (d : Kit) → k < length kits → IsPrefix (given_of s looper c k) (map frame_badge_of (slice_index_or kits k d).frames.items)
 
 -- so it is, and there is a kit for each sender
-pub record HaveNextPasses (s : Script) (looper : ℕ) (c : Frames) (kits : List Kit) : Type 0 where
+pub record HaveNextPasses (s : Script) (looper : ℕ) (c : SharedFrames) (kits : List Kit) : Type 0 where
   pub count : length kits ≡ sender_count s
   pub begin : BeginWithPasses s looper c kits
 
@@ -169,7 +169,7 @@ pub record CanEndQueue (pool : TableId) (pass : Tally) (q : Shared TableId) (ks 
   pub sealed : HasSealedNext ks parts
 
 -- those of the choreographers
-pub record CanEndFrames (s : Script) (cs : List Frames) (ks : List Kit) (lists : List (Vec (List FrameEntry))) : Type 0 where
+pub record CanEndFrames (s : Script) (cs : List SharedFrames) (ks : List Kit) (lists : List (Vec (List FrameEntry))) : Type 0 where
   pub fits : s.threads + s.loopers < 100
   pub choreographers : AreChoreographersOf s cs
   pub count : length ks ≡ sender_count s
@@ -177,7 +177,7 @@ pub record CanEndFrames (s : Script) (cs : List Frames) (ks : List Kit) (lists :
   pub sealed : AreFramesSealed ks lists
 
 -- that of one choreographer
-pub record CanEndChoreographer (s : Script) (looper : ℕ) (c : Frames) (ks : List Kit) (parts : List (List FrameEntry)) : Type 0 where
+pub record CanEndChoreographer (s : Script) (looper : ℕ) (c : SharedFrames) (ks : List Kit) (parts : List (List FrameEntry)) : Type 0 where
   pub fits : s.threads + s.loopers < 100
   pub one : looper < s.loopers
   pub constants : c.constants ≡ frame_constants s looper

@@ -5,7 +5,7 @@ use Rattle.looper_run.specs.Holding.{Sender}
 use Rattle.dash_hall.specs.declared.hall.Hall.{Hall}
 use Rattle.dash_hall.specs.Growth.{own, QuitsOf}
 use Rattle.dash_loopers.specs.declared.looper.StageLooper.{StageLooper}
-use Rattle.dash_loopers.specs.Loopers.{HasRun}
+use Rattle.dash_loopers.specs.Loopers.{HasRunLockstep}
 use Rattle.dash_stage.specs.declared.control.Controller.{Controller}
 use Rattle.dash_stage.specs.Controllers.{IsControllerIn, TurnsAlone, AtPoster}
 
@@ -49,9 +49,10 @@ HaveBeenRung n before after = (q : ℕ) (d : Sender) → q < n → rings before 
 
 -- each looper but the main one has run a round at this moment
 abbrev pub OthersHaveRun : Script → ℕ → List StageLooper → List StageLooper → Type 0
-OthersHaveRun s now before after = (k : ℕ) (d : StageLooper) → 0 < k → k < length before → HasRun s now (slice_index_or before k d) (slice_index_or after k d)
+OthersHaveRun s now before after =
+    (k : ℕ) (d : StageLooper) → 0 < k → k < length before → HasRunLockstep s now (slice_index_or before k d) (slice_index_or after k d)
 
--- a queue was quit at this moment by one call, which may have been refused, unless memory was wanting; no bell was rung
+-- a queue was quit at this moment by one call, which may have been refused, unless memory ran out; no bell was rung
 pub record QuitsNow (safe : Bool) (now : ℕ) (s : Script) (hall : Hall) (place : ℕ) (before after : Controller) (done : Bool) : Type 0 where
   pub alone : TurnsAlone hall.lockstep s hall place before after
   pub here : done ≡ true → AtPoster (λ p p'. QuitsOf p p' safe now) place before after
@@ -64,7 +65,7 @@ pub record QuitsUnless (has_ended : Bool) (now : ℕ) (s : Script) (hall : Hall)
   pub made : done ≡ true → has_ended ≡ false → AtPoster (λ p p'. QuitsOf p p' true now) place before after
   pub bells : RingsNone before after
 
--- main was nudged, and each other queue quit plainly at this time, unless memory was wanting
+-- main was nudged, and each other queue quit plainly at this time, unless memory ran out
 pub record GivesRunUp (now : ℕ) (s : Script) (hall : Hall) (before after : Controller) (done : Bool) : Type 0 where
   pub controller : IsControllerIn hall.lockstep s hall after
   pub nudged : IsNudged before after

@@ -23,7 +23,7 @@ use Rattle.dash_loopers.specs.Loopers.{HaveTold}
 use Rattle.dash_stage.specs.declared.stage.Stage.{Stage}
 use Rattle.dash_stage.specs.Leaving.{HaveGiven}
 use Rattle.dash_stage.specs.Runs.{HaveRunAll}
-use Rattle.dash_stage.specs.Sharing.{OfThreads, OfKits, CarriesOver}
+use Rattle.dash_stage.specs.Sharing.{OfThreads, OfKits, CarriesToKits}
 use Rattle.dash_stage.specs.Controllers.{HasClosedIn}
 use Rattle.dash_stage.specs.Records.{AreQueueRecords, AreFrameRecords, AreJournals, AreLooperRuns}
 use Rattle.dash_stage.specs.RunEnds.{HasEndedBy, HasEndedByClock, HasEndedInLockstep}
@@ -59,8 +59,8 @@ pub record GiveBack (s : Script) (hall : Hall) (ls : List StageLooper) (before a
   pub journals : AreJournals s js
   pub kits : AreSenderKits s hall after
   pub run : (m : Mode) → HaveRunAll m s before → HaveRunAll m s after
-  pub clocked : (m : Mode) → CarriesOver (AreByClock m) ls before after
-  pub seen : (whole : List (List Entry)) → CarriesOver (HaveSeenAll whole) ls before after
+  pub clocked : (m : Mode) → CarriesToKits (AreByClock m) ls before after
+  pub seen : (whole : List (List Entry)) → CarriesToKits (HaveSeenAll whole) ls before after
   pub told : LoopersGoOn ls → HaveTold s js after
   pub left : HaveGiven s ls js after
   pub over : OthersHaveEnded ls → OthersAreOver s after

@@ -9,11 +9,11 @@ use Rattle.looper_run.specs.Holding.{Sender}
 use Rattle.looper_run.specs.Round.{is_ended}
 use Rattle.run_model.specs.Planned.{looper_sender, sender_count}
 use Rattle.run_model.specs.Control.{Before, befores, befores_from, Timing, At, InBlock, NotBefore, are_on_time, come_first}
-use Rattle.run_model.specs.Loopers.{Looper, first_looper}
+use Rattle.run_model.specs.Loopers.{LooperState, first_looper}
 use Rattle.run_model.specs.Parts.{sent_on}
 use Rattle.dash_loopers.specs.declared.looper.StageLooper.{StageLooper}
-use Rattle.dash_loopers.specs.Loopers.{HasRun}
-use Rattle.dash_loopers.specs.Played.{is_disposal, HasCome, HasPlayed, HasComeBy}
+use Rattle.dash_loopers.specs.Loopers.{HasRunLockstep}
+use Rattle.dash_loopers.specs.Played.{is_disposal, StandsBetweenRounds, HasPlayed, StandsBetweenLoops}
 use Rattle.dash_hall.specs.Kits.{AreUnseen}
 use Rattle.dash_stage.specs.declared.control.Controller.{Controller}
 use Rattle.dash_stage.specs.declared.stage.Stage.{Stage}
@@ -32,7 +32,7 @@ IsMet time clock (InBlock t) = ⊥
 IsMet time clock (NotBefore t) = t ≤ clock
 
 -- the calls of looper q that the state tells came at their times: on its own queue all but the looks that disposed of it, and on each other queue all
-pub record AreCallsOnTime (s : Script) (c : Controller) (q : ℕ) (a : Looper) : Type 0 where
+pub record AreCallsOnTime (s : Script) (c : Controller) (q : ℕ) (a : LooperState) : Type 0 where
   pub own : (d : Sender) → q < length c.kit.posters.items
       → are_on_time (map (λ x. x.timing) (sent_on q a.sent)) (befores_called (looper_sender s q) (whole_on c q d)) ≡ true
   pub elsewhere : (r : ℕ) (d : Sender) → r ≢ q → r < length c.kit.posters.items
@@ -40,8 +40,8 @@ pub record AreCallsOnTime (s : Script) (c : Controller) (q : ℕ) (a : Looper) :
 
 -- the looper stands at a state whose calls came at their times
 pub record IsTimelyLooper (s : Script) (c : Controller) (l : StageLooper) : Type 0 where
-  pub state : Looper
-  pub come : HasCome s l state
+  pub state : LooperState
+  pub come : StandsBetweenRounds s l state
   pub on_time : AreCallsOnTime s c l.number state
 
 -- so it is with each looper, where each queue's history is one that it may have
@@ -51,11 +51,12 @@ ArePlayed s st =
 
 -- each looper stands at the state before the first act
 abbrev pub HaveBegun : Script → List StageLooper → Type 0
-HaveBegun s ls = (k : ℕ) (d : StageLooper) → k < length ls → HasCome s (slice_index_or ls k d) (first_looper s)
+HaveBegun s ls = (k : ℕ) (d : StageLooper) → k < length ls → StandsBetweenRounds s (slice_index_or ls k d) (first_looper s)
 
 -- by a clock each looper stands at a state to which its acts lead, and what it did differs from that at most in what free mode leaves open
-abbrev pub HaveComeBy : Script → List StageLooper → Type 0
-HaveComeBy s ls = (k : ℕ) (d : StageLooper) → k < length ls → (did : Looper) × (a : Looper) × HasComeBy s (slice_index_or ls k d) did a
+abbrev pub EachStandsBetweenLoops : Script → List StageLooper → Type 0
+EachStandsBetweenLoops s ls =
+    (k : ℕ) (d : StageLooper) → k < length ls → (did : LooperState) × (a : LooperState) × StandsBetweenLoops s (slice_index_or ls k d) did a
 
 -- the queue's clock shows this time, or its looper has ended and the queue was disposed of by then
 abbrev pub IsInTime : Script → ℕ → StageLooper → List Entry → Type 0
@@ -67,8 +68,8 @@ AreInTime s st =
     (q : ℕ) (l : StageLooper) (d : Sender) → q < length st.loopers.items → IsInTime s st.time (slice_index_or st.loopers.items q l) (whole_on st.controller q d)
 
 -- where each queue's history is one that it may have, the threads' calls on each came first at their time
-abbrev pub HaveComeFirst : Script → Stage → Type 0
-HaveComeFirst s st =
+abbrev pub CallsCameFirst : Script → Stage → Type 0
+CallsCameFirst s st =
     AreSound s st.controller → (q : ℕ) (d : Sender) → q < length st.controller.kit.posters.items → come_first s.threads (whole_on st.controller q d) ≡ true
 
 -- each queue is as at the start of a block at this time
@@ -85,7 +86,7 @@ pub record IsInStep (s : Script) (st : Stage) : Type 0 where
   pub same : HaveSeenTheSame st
   pub in_time : AreSound s st.controller → AreInTime s st
   pub played : ArePlayed s st
-  pub first : HaveComeFirst s st
+  pub first : CallsCameFirst s st
 
 -- so it is, where each queue's history is one that it may have
 abbrev pub AreAtBlockIfSound : Script → ℕ → Stage → Type 0
@@ -93,7 +94,7 @@ AreAtBlockIfSound s time st = AreSound s st.controller → AreAtBlock s time st
 
 -- the looper is as it was, or ran a round at this moment and played on
 abbrev pub PlaysOn : Script → ℕ → StageLooper → StageLooper → Type 0
-PlaysOn s now before after = (after ≡ before) ⊎ (HasRun s now before after × HasPlayed s now before after)
+PlaysOn s now before after = (after ≡ before) ⊎ (HasRunLockstep s now before after × HasPlayed s now before after)
 
 -- a message is due on the queue, which is not over and whose clock is before this time
 pub record IsStuck (s : Script) (now : ℕ) (es : List Entry) : Type 0 where

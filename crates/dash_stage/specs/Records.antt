@@ -9,7 +9,7 @@ use Rattle.loop_model.specs.declared.journal.Journal.{Journal}
 use Rattle.loop_model.specs.declared.record.QueueRecord.{QueueRecord}
 use Rattle.frame_phases.specs.declared.entry.FrameRecord.{FrameRecord}
 use Rattle.looper_run.specs.Holding.{Sender}
-use Rattle.choreographer.specs.Known.{Known as Pass}
+use Rattle.choreographer.specs.Known.{Pass}
 use Rattle.choreographer.specs.Ends.{AreHeard}
 use Rattle.run_model.specs.Moments.{Mode}
 use Rattle.run_model.specs.Run.{IsRecordOf, IsFrameRun, IsLooperRun, EachLooper}

@@ -10,7 +10,7 @@ use Rattle.dash_stage.specs.Asking.{AskInTurn}
 use Rattle.dash_stage.specs.BehindThreads.{CallsBehindThreads}
 use Rattle.dash_stage.specs.ByClock.{HaveLooped}
 use Rattle.dash_stage.specs.Controllers.{HasClosed, HasClosedIn, CallsNothingOn, IsClosingBy}
-use Rattle.dash_stage.specs.Playing.{HaveBegun, HaveComeBy}
+use Rattle.dash_stage.specs.Playing.{HaveBegun, EachStandsBetweenLoops}
 use Rattle.dash_stage.specs.Sharing.{OfSenders, HaveSeenTheSame}
 use Rattle.dash_stage.specs.Stages.{IsStageIn, IsStage, HaveRunBy, OthersHaveEnded, LoopersGoOn}
 use Rattle.dash_stage.specs.Steps.{StageAt, RestsAt, IsUnderWay}
@@ -65,7 +65,7 @@ pub record HasRunByClock (m : Mode) (s : Script) (st : Stage) : Type 0 where
   pub ended : OthersHaveEnded st.loopers.items
   pub on : LoopersGoOn st.loopers.items
   pub looped : HaveLooped m s st.loopers.items
-  pub played : HaveComeBy s st.loopers.items
+  pub played : EachStandsBetweenLoops s st.loopers.items
   pub behind : CallsBehindThreads s st.threads.items st.controller
 
 -- all senders have seen the same, the queues but main were quit, and main is still to be halted

@@ -5,7 +5,7 @@ use Rattle.frame_phases.specs.declared.entry.FrameEntry.{FrameEntry}
 use Rattle.loop_model.specs.declared.entry.Entry.{Entry}
 use Rattle.looper_run.specs.Holding.{Sender}
 use Rattle.shared_queue.specs.Known.{Shared, IsOf}
-use Rattle.choreographer.specs.Known.{Shared as Frames, Known as Pass, IsOf as IsFrameOf, HasHeardWho}
+use Rattle.choreographer.specs.Known.{SharedFrames, Pass, IsPassOf, HasHeardWho}
 use Rattle.dash_script.specs.declared.script.Script.{Script}
 use Rattle.dash_hall.specs.declared.kit.Kit.{Kit}
 use Rattle.dash_threads.specs.declared.thread.PostingThread.{PostingThread}
@@ -68,15 +68,15 @@ pub record HavePassesHeard (place : ℕ) (whole : List (ℕ × FrameEntry)) (st 
   pub controller : HaveHeardAllAt place whole st.controller.kit.frames.items
 
 -- what passes of the other choreographers have heard is as before
-abbrev pub OtherPassesStay : ℕ → Stage → Stage → Type 0
-OtherPassesStay place before after = (q : ℕ) (whole : List (ℕ × FrameEntry)) → q ≢ place → HavePassesHeard q whole before → HavePassesHeard q whole after
+abbrev pub OtherPassesHearNothing : ℕ → Stage → Stage → Type 0
+OtherPassesHearNothing place before after = (q : ℕ) (whole : List (ℕ × FrameEntry)) → q ≢ place → HavePassesHeard q whole before → HavePassesHeard q whole after
 
 -- all passes of the choreographer at this place have heard the same, and of the others what they had; all else is as before
 pub record SharesFramesAt (place : ℕ) (before after : Stage) : Type 0 where
   pub kept : StageKeeps AreKept before after
   pub heard : List (ℕ × FrameEntry)
   pub passes : HavePassesHeard place heard after
-  pub elsewhere : OtherPassesStay place before after
+  pub elsewhere : OtherPassesHearNothing place before after
 
 -- all senders have seen the same of the queue at this place, and of the others what they had seen
 abbrev pub SharesAt : ℕ → Stage → Stage → Type 0
@@ -91,8 +91,8 @@ abbrev pub OfKits : (List Sender → Type 0) → List Kit → Type 0
 OfKits P kits = (k : ℕ) (d : Kit) → k < length kits → P (slice_index_or kits k d).posters.items
 
 -- what holds of the posters of each of these loopers and of each kit before holds of each kit after
-abbrev pub CarriesOver : (List Sender → Type 0) → List StageLooper → List Kit → List Kit → Type 0
-CarriesOver P ls before after = OfLoopers P ls → OfKits P before → OfKits P after
+abbrev pub CarriesToKits : (List Sender → Type 0) → List StageLooper → List Kit → List Kit → Type 0
+CarriesToKits P ls before after = OfLoopers P ls → OfKits P before → OfKits P after
 
 -- all senders have seen the same of each queue's history
 abbrev pub HaveSeenTheSame : Stage → Type 0
@@ -151,9 +151,9 @@ pub record HaveSharedBy (place : ℕ) (ts ts' : List PostingThread) (ls ls' : Li
   pub poster : HasHeard p p'
 
 -- a pass of this choreographer may hear those of the threads
-pub record CanHearPasses (place : ℕ) (c : Frames) (ts : List PostingThread) (other : Pass) : Type 0 where
+pub record CanHearPasses (place : ℕ) (c : SharedFrames) (ts : List PostingThread) (other : Pass) : Type 0 where
   pub ready : OfPasses (ArePassesReady place c) ts
-  pub pass : IsFrameOf other c
+  pub pass : IsPassOf other c
 
 -- it heard all that they have
 pub record HaveToldPass (place : ℕ) (ts ts' : List PostingThread) (other other' : Pass) : Type 0 where
@@ -162,11 +162,11 @@ pub record HaveToldPass (place : ℕ) (ts ts' : List PostingThread) (other other
   pub told : OfPasses (ArePassesKnown place other'.view.heard) ts
 
 -- this pass and those of the threads and of the looper may hear each other
-pub record CanSharePasses (place : ℕ) (c : Frames) (ts : List PostingThread) (l : StageLooper) (p : Pass) : Type 0 where
+pub record CanSharePasses (place : ℕ) (c : SharedFrames) (ts : List PostingThread) (l : StageLooper) (p : Pass) : Type 0 where
   pub threads : OfPasses (ArePassesReady place c) ts
   pub parts : IsSome l.parts
-  pub looper : OfItsPasses (λ q. IsFrameOf q c) l
-  pub pass : IsFrameOf p c
+  pub looper : OfItsPasses (λ q. IsPassOf q c) l
+  pub pass : IsPassOf p c
 
 -- they have heard the same: who recorded each entry that one of them has seen
 pub record HaveSharedPasses (place : ℕ) (ts ts' : List PostingThread) (l l' : StageLooper) (p p' : Pass) : Type 0 where

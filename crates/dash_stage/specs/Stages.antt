@@ -62,12 +62,13 @@ abbrev pub HaveRunBy : Mode → Script → List Block → List PostingThread →
 HaveRunBy m s bs ts = (k : ℕ) (d : PostingThread) → k < length ts → IsUpTo m s (lines_of k bs) (slice_index_or ts k d)
 
 -- the same in lockstep
-abbrev pub HaveRun : Script → List Block → List PostingThread → Type 0
-HaveRun s bs ts = HaveRunBy in_lockstep s bs ts
+abbrev pub HaveRunLockstep : Script → List Block → List PostingThread → Type 0
+HaveRunLockstep s bs ts = HaveRunBy in_lockstep s bs ts
 
 -- each thread has run its lines of this block, where it comes next
-abbrev pub RunOn : Script → Block → List PostingThread → List PostingThread → Type 0
-RunOn s b before after = (k : ℕ) (d : PostingThread) → k < length before → Continues in_lockstep s b (slice_index_or before k d) (slice_index_or after k d)
+abbrev pub EachRunsBlock : Script → Block → List PostingThread → List PostingThread → Type 0
+EachRunsBlock s b before after =
+    (k : ℕ) (d : PostingThread) → k < length before → Continues in_lockstep s b (slice_index_or before k d) (slice_index_or after k d)
 
 -- the thread is the same, and unless it gave up it has run its lines of this block
 abbrev pub RunsBlock : Script → Hall → Block → PostingThread → PostingThread → Type 0

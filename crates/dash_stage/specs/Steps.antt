@@ -17,14 +17,14 @@ use Rattle.dash_stage.specs.GivingUp.{AreQuit, IsNudged, OthersHaveRun}
 use Rattle.dash_stage.specs.Moves.{AreMoved, MayBeMovedTo, IsAwaited}
 use Rattle.dash_stage.specs.Playing.{IsInStep, AreAtBlockIfSound, LiesAhead}
 use Rattle.dash_stage.specs.Sharing.{HaveSeenTheSame}
-use Rattle.dash_stage.specs.Stages.{IsStage, HaveRun}
+use Rattle.dash_stage.specs.Stages.{IsStage, HaveRunLockstep}
 use Rattle.dash_stage.specs.Timeliness.{AreSound, AreTimelyUpTo, AreBy, AreRested, AreDue, NotLater, NotLaterThanWait, LooksUnlessEnded}
 use Rattle.dash_stage.specs.Turns.{HaveTakenTurns, AtTurn, IsTheSame}
 
 -- the threads have run these blocks, the histories are timely up to them, the stage is in step, the queues were moved together, and the choreographers asked in
 -- turn
 pub record StageAt (s : Script) (past : List Block) (st : Stage) : Type 0 where
-  pub run : HaveRun s past st.threads.items
+  pub run : HaveRunLockstep s past st.threads.items
   pub timely : AreTimelyUpTo s past st
   pub step : IsInStep s st
   pub moves : AreMoved s st.controller
@@ -36,7 +36,7 @@ pub record RestsAt (s : Script) (past : List Block) (st : Stage) : Type 0 where
   pub rested : AreRested s st
 
 -- this time lies ahead of the stage, which has asked in turn before a block at this time
-pub record ComesBefore (s : Script) (past : List Block) (time : ℕ) (st : Stage) : Type 0 where
+pub record TimeLiesAhead (s : Script) (past : List Block) (time : ℕ) (st : Stage) : Type 0 where
   pub ahead : AreSound s st.controller → LiesAhead time st
   pub turn : AskInTurn s past (in_block time) st
 
@@ -81,7 +81,7 @@ pub record HasGoneTo (time : ℕ) (st : Stage) : Type 0 where
 pub record GoesTo (s : Script) (time : ℕ) (before after : Stage) : Type 0 where
   pub gone : HasGoneTo time after
   pub at : StaysFromRest s before after
-  pub block : (past : List Block) → RestsAt s past before → ComesBefore s past time before → BeginsBlock s past time after
+  pub block : (past : List Block) → RestsAt s past before → TimeLiesAhead s past time before → BeginsBlock s past time after
 
 -- meanwhile the controller has called nothing, and the time stood still
 pub record StandsStill (s : Script) (before after : Stage) : Type 0 where
@@ -113,7 +113,7 @@ pub record MovesOn (s : Script) (time : ℕ) (before after : Stage) (moved : Boo
   pub reached : moved ≡ true → HasReached time after.controller
   pub at : (past : List Block) (ready : IsReadyFor s past time before) → StillAt s past ready.stood after
   pub drained : (past : List Block) → IsReadyFor s past time before → AreSound s after.controller → moved ≡ true
-  pub block : (past : List Block) (ready : IsReadyFor s past time before) → ComesBefore s past time ready.stood → BeginsBlock s past time after
+  pub block : (past : List Block) (ready : IsReadyFor s past time before) → TimeLiesAhead s past time ready.stood → BeginsBlock s past time after
 
 -- the controller has only moved the time of the script's loopers so far, no queue past the stage's time
 pub record IsUnderWay (s : Script) (st : Stage) : Type 0 where
@@ -173,7 +173,7 @@ pub record FindsNextOn (looper : ℕ) (s : Script) (before after : Stage) (next 
   pub over : (l : StageLooper) → is_ended (slice_index_or before.loopers.items looper l).last ≡ true → next ≡ None
   pub elsewhere : OtherPassesStay looper before.controller after.controller
 
--- the run was given up: main was nudged, the other queues were quit plainly unless memory was wanting, and the other loopers ran a round
+-- the run was given up: main was nudged, the other queues were quit plainly unless memory ran out, and the other loopers ran a round
 pub record HasGivenUp (s : Script) (before after : Stage) (done : Bool) : Type 0 where
   pub stage : IsStage s after
   pub nudged : IsNudged before.controller after.controller
@@ -190,5 +190,5 @@ pub record IsAtNext (s : Script) (past rest : List Block) (b : Block) (st : Stag
   pub begins : BeginsBlock s past b.time st
 
 -- wherever this block was the next, the stage has run it
-abbrev pub RunsNext : Script → Block → Stage → Stage → Type 0
-RunsNext s b before after = (past rest : List Block) → IsAtNext s past rest b before → StageAt s (past ++ b ∷ []) after
+abbrev pub StageRunsBlock : Script → Block → Stage → Stage → Type 0
+StageRunsBlock s b before after = (past rest : List Block) → IsAtNext s past rest b before → StageAt s (past ++ b ∷ []) after

@@ -129,29 +129,29 @@ abbrev pub MovesNot : Entry → Type 0
 MovesNot e = is_advance e.call ≡ false
 
 -- the entry halts the queue
-abbrev pub Halts : Entry → Type 0
-Halts e = is_halt e.call ≡ true
+abbrev pub IsHaltEntry : Entry → Type 0
+IsHaltEntry e = is_halt e.call ≡ true
 
 -- there is no such entry
-abbrev pub IsNone : Entry → Type 0
-IsNone e = ⊥
+abbrev pub IsNoEntry : Entry → Type 0
+IsNoEntry e = ⊥
 
 -- by turns that made no entry a poster handed parts out, which stand behind those that it had handed out
-pub record HandsOut (before after : Sender) (had has : List Segment) : Type 0 where
+pub record HandsPartsOut (before after : Sender) (had has : List Segment) : Type 0 where
   pub table : after.table ≡ before.table
   pub constants : after.view.constants ≡ before.view.constants
   pub called : own after ≡ own before
-  pub turns : TurnsOn IsNone before after
+  pub turns : TurnsOn IsNoEntry before after
   pub parts : before.view.sealed ≡ had → after.view.sealed ≡ has
 
 -- each queue's time has come to this one, or the queue is over
-abbrev pub HaveCome : Script → ℕ → Controller → Type 0
-HaveCome s now c =
+abbrev pub HaveReachedTime : Script → ℕ → Controller → Type 0
+HaveReachedTime s now c =
     (q : ℕ) (d : Sender) → q < length c.kit.posters.items → (now ≤ time_in (calls_on c q d)) ⊎ (is_over (empty_base (sender_count s)) (whole_on c q d) ≡ true)
 
 -- so it is with this queue
-abbrev pub HasComeOn : Script → ℕ → ℕ → Controller → Type 0
-HasComeOn s now place c = (d : Sender) → (now ≤ time_in (calls_on c place d)) ⊎ (is_over (empty_base (sender_count s)) (whole_on c place d) ≡ true)
+abbrev pub HasReachedTime : Script → ℕ → ℕ → Controller → Type 0
+HasReachedTime s now place c = (d : Sender) → (now ≤ time_in (calls_on c place d)) ⊎ (is_over (empty_base (sender_count s)) (whole_on c place d) ≡ true)
 
 -- main's history ends with its halt
 abbrev pub HasHaltedLast : Script → Stage → Type 0

@@ -4,11 +4,11 @@ ghost use Rattle.dash_hall.specs.Growth.{GoesOn, QuitsOf};
 ghost use Rattle.dash_hall.specs.Hearing.{seen_by};
 ghost use Rattle.dash_threads.specs.Threads.{AreByClock};
 ghost use Rattle.looper_run.specs.Holding.{Sender};
-ghost use Rattle.run_model.specs.Moments.{Mode, IsMoment};
+ghost use Rattle.run_model.specs.Moments.{Mode, IsMomentOf};
 ghost use Rattle.dash_stage.specs.Controllers.{IsController, CanTurn, TurnsAlone, IsClosing, IsClosingBy, HandsOutFrames, calls_on, time_in, Controls};
 ghost use Rattle.dash_stage.specs.ControlSteps.{KeepsPace, HasAdvanced, HaveAdvanced, QuitsAt, CanMove, CanQuit, CanQuitAtEnd, CanQuitBy, CanHandOut, CanHandOutFrames, TriesToHalt, TurnsIdle, StaysIdle, KeepsPosters, HasLookedFor};
 ghost use Rattle.dash_stage.specs.GivingUp.{QuitsUnless};
-ghost use Rattle.dash_stage.specs.Timeliness.{EachTurnsOn, Halts, IsNone, HandsOut};
+ghost use Rattle.dash_stage.specs.Timeliness.{EachTurnsOn, IsHaltEntry, IsNoEntry, HandsPartsOut};
 
 use choreographer::{Choreographer, FramePass};
 use dash_hall::{Hall, Kit, quit};
@@ -98,7 +98,7 @@ impl Controller {
     ) -> Result<(), NoMemory>
         requires { Controls true script.now hall.now self.old }
         ensures idle { StaysIdle true script.now hall.now self.old self.new }
-        ensures turns { OnOk result (EachTurnsOn IsNone self.old self.new) }
+        ensures turns { OnOk result (EachTurnsOn IsNoEntry self.old self.new) }
     {
         for place in 0..script.loopers {
             self.seal_one(rt, hall, script, place as usize)?;
@@ -266,7 +266,7 @@ impl Controller {
         requires closing { IsClosingBy script.now self.old }
         requires late { script.now.end ≤ now }
         ensures tries { TriesToHalt false (IsClosingBy script.now) script.now hall.now self.old self.new result }
-        ensures clocked { (m : Mode) → IsMoment m now → AreByClock m self.old.kit.posters.items → AreByClock m self.new.kit.posters.items }
+        ensures clocked { (m : Mode) → IsMomentOf m now → AreByClock m self.old.kit.posters.items → AreByClock m self.new.kit.posters.items }
     {
         match self.kit.posters[0].halt(rt, &hall.queues[0], now) {
             Halting::Halted => true,
@@ -293,7 +293,7 @@ fn hand_out<R: Wait>(
     parts: &mut Vec<Segment>,
 ) -> Result<(), NoMemory>
     requires { CanHandOut poster.old queue.now }
-    ensures { HandsOut poster.old poster.new parts.old.items parts.new.items }
+    ensures { HandsPartsOut poster.old poster.new parts.old.items parts.new.items }
 {
     if poster.since(rt, queue) < MANY {
         return Ok(());

@@ -35,7 +35,7 @@ use std::time;
 
 /// Runs the script by a clock and keeps its records. Each thread runs its blocks at their times, each looper waits for its messages on a
 /// thread of its own, the main one until the script's end. Then the controller quits the others safely, these run until their queues
-/// are disposed of, and the main one drains and is halted. The script has a text. It is refused only for want of memory.
+/// are disposed of, and the main one drains and is halted. The script has a text. It is refused only when out of memory.
 pub fn run_free<R: Threads + Wait + time::Clock + Sync, C: Clock + Sync, G: Gate + Sync>(
     rt: &R,
     alloc: Global,

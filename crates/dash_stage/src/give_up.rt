@@ -17,7 +17,7 @@ use std::thread::Threads;
 
 impl Stage {
     /// Gives the run up, since a sender found no memory: the flag is set, main is nudged, and the controller quits each other looper
-    /// plainly, whatever comes of it. These run a round, which ends with their disposal, for want of memory, or at the flag. Answers
+    /// plainly, whatever comes of it. These run a round, which ends with their disposal, when out of memory, or at the flag. Answers
     /// false where a quit found no memory.
     pub(crate) fn give_up<R: Threads + Wait + Sync, G: Gate + Sync>(
         &mut self,

@@ -28,7 +28,7 @@ pub enum Ran {
 /// Runs the script in lockstep and keeps its records. The event times rise, each the least of the next block, the end, the time
 /// of a message that may be dispatched and the pulse of a frame; at each the controller moves the queues' time on, the threads
 /// run the block of that time side by side, and the loopers run rounds side by side until nothing is due. The script has a text. It
-/// is refused only for want of memory. Lockstep is this project's profile.
+/// is refused only when out of memory. Lockstep is this project's profile.
 pub fn run_script<R: Threads + Wait + Sync, G: Gate + Sync>(
     rt: &R,
     alloc: Global,

@@ -5,7 +5,7 @@ ghost use Rattle.dash_script.specs.Reading.{HasText};
 ghost use Rattle.dash_hall.specs.Kits.{IsHall};
 ghost use Rattle.dash_threads.specs.Threads.{IsThread};
 ghost use Rattle.dash_loopers.specs.Loopers.{IsLooper};
-ghost use Rattle.dash_stage.specs.Stages.{CanRunBlock, CanRunRound, AreThreads, RunOn, RunsBlock, GoOn, LoopersGoOn};
+ghost use Rattle.dash_stage.specs.Stages.{CanRunBlock, CanRunRound, AreThreads, EachRunsBlock, RunsBlock, GoOn, LoopersGoOn};
 ghost use Rattle.dash_stage.specs.Turns.{has_turn, RunsInTurn, HaveRunRound};
 
 use crate::agenda::Spread;
@@ -49,7 +49,7 @@ pub(crate) fn run_threads<R: Threads + Wait + Sync, G: Gate + Sync>(
 ) -> Result<(), NoMemory>
     requires { CanRunBlock script.now hall.now threads.old }
     ensures threads { AreThreads script.now hall.now threads.new }
-    ensures run { OnOk result (RunOn script.now block.now threads.old threads.new) }
+    ensures run { OnOk result (EachRunsBlock script.now block.now threads.old threads.new) }
 {
     let count = threads_for(block, threads);
     for_each_mut(

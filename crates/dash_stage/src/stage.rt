@@ -2,7 +2,7 @@
 ghost use Rattle.std.specs.Prelude.{◌≡◌, ◌<◌, ◌≤◌, ◌⊎◌, ℕ, true, Some, IfOk, OnOk};
 ghost use Rattle.dash_stage.specs.RunEnds.{HasBegunInLockstep, HasEndedInLockstep, EndsThere};
 ghost use Rattle.dash_stage.specs.Stages.{IsStage, OthersHaveEnded};
-ghost use Rattle.dash_stage.specs.Steps.{IsUnderWay, IsGoal, IsAtEnd, GoesTo, MovesOn, RunsNext, StandsStill, StaysAndShares, Settles};
+ghost use Rattle.dash_stage.specs.Steps.{IsUnderWay, IsGoal, IsAtEnd, GoesTo, MovesOn, StageRunsBlock, StandsStill, StaysAndShares, Settles};
 ghost use Rattle.dash_stage.specs.Steps.{FindsNext, FindsNextOn, TakesRound, TakesRounds, ClosesFromRest};
 ghost use Rattle.dash_stage.specs.Timeliness.{NotLater};
 
@@ -161,7 +161,7 @@ impl Stage {
     ) -> Result<(), NoMemory>
         requires stage { IsStage script.now self.old }
         ensures still { StandsStill script.now self.old self.new }
-        ensures next { OnOk result (RunsNext script.now block.now self.old self.new) }
+        ensures next { OnOk result (StageRunsBlock script.now block.now self.old self.new) }
     {
         run_threads(
             means,

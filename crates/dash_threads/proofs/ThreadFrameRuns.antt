@@ -11,10 +11,10 @@ use Rattle.dash_script.specs.declared.script.Script.{Script}
 use Rattle.dash_script.specs.Causes.{each_number, numbers_pass, is_within, is_declared, phase_count}
 use Rattle.dash_script.specs.Reading.{HasText}
 use Rattle.looper_run.specs.Holding.{Sender}
-use Rattle.choreographer.specs.Known.{Known as Pass}
-use Rattle.run_model.specs.Planned.{call_of, Timed, labels_on, lines_of, frame_message, frame_due, on}
+use Rattle.choreographer.specs.Known.{Pass}
+use Rattle.run_model.specs.Planned.{call_of, TimedCommand, labels_on, lines_of, frame_message, frame_due, on}
 use Rattle.run_model.specs.AskedSoFar.{tokens_in, lines_ask}
-use Rattle.run_model.specs.Moments.{Mode, IsUptime, IsMoment}
+use Rattle.run_model.specs.Moments.{Mode, IsUptime, IsMomentOf}
 use Rattle.run_model.specs.FrameRecords.{FrameAsk, Posts, Removes, as_told, line_asks}
 use Rattle.dash_threads.specs.declared.labels.Labelled.{Labelled}
 use Rattle.dash_hall.specs.declared.calls.QueueCall.TheVariants as on_queue
@@ -24,7 +24,7 @@ use Rattle.dash_hall.specs.Growth.{own, Makes}
 use Rattle.dash_hall.specs.ByClock.{IsByClock}
 use Rattle.dash_hall.proofs.Clocking.{clocked_same}
 use Rattle.dash_hall.specs.QueueCalls.{call_made}
-use Rattle.dash_hall.specs.Hosts.{asks_of, AsksFor, PostsFrame}
+use Rattle.dash_hall.specs.Hosts.{pass_asks, AsksFor, PostsFrame}
 use Rattle.dash_threads.specs.Threads.{HasCalled, AreByClock, HasAsked, HasTurned, KeepsBarriers, Progress, CallsAt}
 use Rattle.dash_threads.proofs.ThreadText.{line_passes}
 use Rattle.dash_threads.proofs.ThreadPlans.{asked_if}
@@ -49,11 +49,11 @@ due_call u lo phase delay = record { looper = lo; call = on_queue.Send (frame_me
 told_due : (m : Mode) (time u phase id delay : ℕ) → IsUptime m time u → as_told m.lockstep (Posts phase (frame_due u delay) id None) ≡ as_told m.lockstep (Posts phase (frame_due time delay) id None)
 told_due m time u phase id delay up = by_mode m.lockstep up
   where
-    by_mode : (b : Bool) → MatchBool b (u ≡ time) ((time ≤ u) × IsMoment m u) → as_told b (Posts phase (frame_due u delay) id None) ≡ as_told b (Posts phase (frame_due time delay) id None)
+    by_mode : (b : Bool) → MatchBool b (u ≡ time) ((time ≤ u) × IsMomentOf m u) → as_told b (Posts phase (frame_due u delay) id None) ≡ as_told b (Posts phase (frame_due time delay) id None)
     by_mode true is = ap (λ (n : ℕ). Posts phase (frame_due n delay) id None) is
     by_mode false is = refl
 
-module _ (m : Mode) (s : Script) (time u lo phase id delay n : ℕ) (bs : List Labelled) (ps : List Sender) (past : List Timed) (p q : Sender) (allowed : IsUptime m time u) (mode : AreInMode m ps) (is : p ≡ get_or ps lo p) (near : lo < length ps) (sender : q.sender ≡ p.sender) (seen : IsPrefix p.view.seen q.view.seen) (called : HasCalled m s past n ps) (clocked : AreByClock m ps) (kept : KeepsBarriers past bs ps) where
+module _ (m : Mode) (s : Script) (time u lo phase id delay n : ℕ) (bs : List Labelled) (ps : List Sender) (past : List TimedCommand) (p q : Sender) (allowed : IsUptime m time u) (mode : AreInMode m ps) (is : p ≡ get_or ps lo p) (near : lo < length ps) (sender : q.sender ≡ p.sender) (seen : IsPrefix p.view.seen q.view.seen) (called : HasCalled m s past n ps) (clocked : AreByClock m ps) (kept : KeepsBarriers past bs ps) where
   same_own : own q ≡ own p → (k : ℕ) (d : Sender) → own (get_or (set ps lo q) k d) ≡ own (get_or ps k d)
   same_own same k d = at_place (λ (a b : Sender). own b ≡ own a) ps lo k p q d is near (λ here. same) (λ there. refl) (lo == k) refl
 
@@ -83,12 +83,12 @@ module _ (m : Mode) (s : Script) (time u lo phase id delay n : ℕ) (bs : List L
     },
   )
 
-asked_if_here : (ask : FrameAsk) (k : ℕ) (l : Timed) (b : Bool) → line_asks k l ≡ (if b then Some ask else None) → cons_option (line_asks k l) [] ≡ (if b then ask ∷ [] else [])
+asked_if_here : (ask : FrameAsk) (k : ℕ) (l : TimedCommand) (b : Bool) → line_asks k l ≡ (if b then Some ask else None) → cons_option (line_asks k l) [] ≡ (if b then ask ∷ [] else [])
 asked_if_here ask k l true plan = ap (λ (o : Option FrameAsk). cons_option o []) plan
 asked_if_here ask k l false plan = ap (λ (o : Option FrameAsk). cons_option o []) plan
 
 -- one pass has asked for what a line asks for, as it is told in the mode, in one turn
-module _ (m : Mode) (l : Timed) (lo : ℕ) (ask did : FrameAsk) (told : as_told m.lockstep did ≡ as_told m.lockstep ask) (past : List Timed) (fs : List Pass) (f g : Pass) (is : f ≡ get_or fs lo f) (near : lo < length fs) (plan : (k : ℕ) → line_asks k l ≡ (if lo == k then Some ask else None)) where
+module _ (m : Mode) (l : TimedCommand) (lo : ℕ) (ask did : FrameAsk) (told : as_told m.lockstep did ≡ as_told m.lockstep ask) (past : List TimedCommand) (fs : List Pass) (f g : Pass) (is : f ≡ get_or fs lo f) (near : lo < length fs) (plan : (k : ℕ) → line_asks k l ≡ (if lo == k then Some ask else None)) where
   planned_here : (k : ℕ) → lines_ask k (past ++ l ∷ []) ≡ lines_ask k past ++ (if lo == k then ask ∷ [] else [])
   planned_here k = asks_more k past l ∙ ap (λ (xs : List FrameAsk). lines_ask k past ++ xs) (asked_if_here ask k l (lo == k) (plan k))
 
@@ -100,13 +100,13 @@ module _ (m : Mode) (l : Timed) (lo : ℕ) (ask did : FrameAsk) (told : as_told 
   asked_more asks has k d near' =
       let near'' : k < length fs = omega (arith, near', length-set fs lo g) in
       let told_of = map (as_told m.lockstep) in
-      let grown : asks_of (get_or (set fs lo g) k d) ≡ asks_of (get_or fs k d) ++ (if lo == k then did ∷ [] else []) =
-      at_place (λ (a b : Pass). asks_of b ≡ asks_of a ++ (if lo == k then did ∷ [] else [])) fs lo k f g d is near
-      (λ here. asks ∙ ap (λ (b : Bool). asks_of f ++ (if b then did ∷ [] else [])) (sym here))
-      (λ there. sym (append-nil (asks_of (get_or fs k d))) ∙ ap (λ (b : Bool). asks_of (get_or fs k d) ++ (if b then did ∷ [] else [])) (sym there))
+      let grown : pass_asks (get_or (set fs lo g) k d) ≡ pass_asks (get_or fs k d) ++ (if lo == k then did ∷ [] else []) =
+      at_place (λ (a b : Pass). pass_asks b ≡ pass_asks a ++ (if lo == k then did ∷ [] else [])) fs lo k f g d is near
+      (λ here. asks ∙ ap (λ (b : Bool). pass_asks f ++ (if b then did ∷ [] else [])) (sym here))
+      (λ there. sym (append-nil (pass_asks (get_or fs k d))) ∙ ap (λ (b : Bool). pass_asks (get_or fs k d) ++ (if b then did ∷ [] else [])) (sym there))
       (lo == k) refl in
       ap told_of grown
-      ∙ (map-append (as_told m.lockstep) (asks_of (get_or fs k d)) (if lo == k then did ∷ [] else [])
+      ∙ (map-append (as_told m.lockstep) (pass_asks (get_or fs k d)) (if lo == k then did ∷ [] else [])
       ∙ ((λ i. has k d near'' i ++ told_if (lo == k) i)
       ∙ (sym (map-append (as_told m.lockstep) (lines_ask k past) (if lo == k then ask ∷ [] else [])) ∙ sym (ap told_of (planned_here k)))))
 
@@ -128,7 +128,7 @@ module _ (m : Mode) (l : Timed) (lo : ℕ) (ask did : FrameAsk) (told : as_told 
       one_long true = refl
       one_long false = refl
 
-pub frame_progress : (m : Mode) (s : Script) (time u lo phase id delay n : ℕ) (bs : List Labelled) (ps : List Sender) (fs : List Pass) (p q : Sender) (f g : Pass) (past : List Timed) → IsUptime m time u → AreInMode m ps
+pub frame_progress : (m : Mode) (s : Script) (time u lo phase id delay n : ℕ) (bs : List Labelled) (ps : List Sender) (fs : List Pass) (p q : Sender) (f g : Pass) (past : List TimedCommand) → IsUptime m time u → AreInMode m ps
     → p ≡ get_or ps lo p → f ≡ get_or fs lo f → lo < length ps → lo < length fs → q.sender ≡ p.sender → IsPrefix p.view.seen q.view.seen
     → PostsFrame (64 + lo) u phase id delay p q f g → Progress m s past n bs ps fs → Progress m s (past ++ line time (Frame lo phase id delay) ∷ []) n bs (set ps lo q) (set fs lo g)
 frame_progress m s time u lo phase id delay n bs ps fs p q f g past allowed mode is is' near near' sender seen made up =
@@ -145,7 +145,7 @@ frame_progress m s time u lo phase id delay n bs ps fs p q f g past allowed mode
       turned = turned_more m l lo ask did told past fs f g is' near' (λ k. refl) made.turn up.turned;
     }
 
-pub unframe_progress : (m : Mode) (s : Script) (time u lo phase id n : ℕ) (bs : List Labelled) (ps : List Sender) (fs : List Pass) (f g : Pass) (past : List Timed) → IsUptime m time u → f ≡ get_or fs lo f → lo < length fs
+pub unframe_progress : (m : Mode) (s : Script) (time u lo phase id n : ℕ) (bs : List Labelled) (ps : List Sender) (fs : List Pass) (f g : Pass) (past : List TimedCommand) → IsUptime m time u → f ≡ get_or fs lo f → lo < length fs
     → AsksFor (Removes phase id None) f g → g.view.turns ≡ f.view.turns + 1 → Progress m s past n bs ps fs → Progress m s (past ++ line time (Unframe lo phase id) ∷ []) n bs ps (set fs lo g)
 unframe_progress m s time u lo phase id n bs ps fs f g past allowed is near asks turn up =
     let l = line time (Unframe lo phase id) in
@@ -162,7 +162,7 @@ unframe_progress m s time u lo phase id n bs ps fs f g past allowed is near asks
     }
 
 -- a line of a text names a looper and a phase that are there
-pub frame_within : (s : Script) (n u lo phase id delay : ℕ) (past rest : List Timed) → HasText s → past ++ (line u (Frame lo phase id delay) ∷ rest) ≡ lines_of n s.blocks → (lo < s.loopers) × (phase < phase_count s.edition)
+pub frame_within : (s : Script) (n u lo phase id delay : ℕ) (past rest : List TimedCommand) → HasText s → past ++ (line u (Frame lo phase id delay) ∷ rest) ≡ lines_of n s.blocks → (lo < s.loopers) × (phase < phase_count s.edition)
 unfolding each_number
 frame_within s n u lo phase id delay past rest text are =
     let declared = line_passes (numbers_pass (is_declared s)) s n past rest (line u (Frame lo phase id delay)) text.names are in
@@ -171,7 +171,7 @@ frame_within s n u lo phase id delay past rest text are =
     let least = ltb-true phase (phase_count s.edition) (and_parts _ _ within).0 in
     (place, least)
 
-pub unframe_within : (s : Script) (n u lo phase id : ℕ) (past rest : List Timed) → HasText s → past ++ (line u (Unframe lo phase id) ∷ rest) ≡ lines_of n s.blocks → (lo < s.loopers) × (phase < phase_count s.edition)
+pub unframe_within : (s : Script) (n u lo phase id : ℕ) (past rest : List TimedCommand) → HasText s → past ++ (line u (Unframe lo phase id) ∷ rest) ≡ lines_of n s.blocks → (lo < s.loopers) × (phase < phase_count s.edition)
 unfolding each_number
 unframe_within s n u lo phase id past rest text are =
     let declared = line_passes (numbers_pass (is_declared s)) s n past rest (line u (Unframe lo phase id)) text.names are in

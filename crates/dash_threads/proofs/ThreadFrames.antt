@@ -8,14 +8,14 @@ use Rattle.frame_phases.specs.State.{removed, past}
 use Rattle.frame_phases.specs.Frames.{removed_count}
 use Rattle.looper_run.specs.Holding.{Sender}
 use Rattle.choreographer.specs.declared.kept.Kept.{Kept}
-use Rattle.choreographer.specs.Known.{Known as Pass, IsTurn}
+use Rattle.choreographer.specs.Known.{Pass, IsFrameTurn}
 use Rattle.choreographer.proofs.Recorded.{turn_records}
 use Rattle.run_model.specs.Moments.{in_lockstep}
-use Rattle.run_model.specs.Planned.{Timed}
+use Rattle.run_model.specs.Planned.{TimedCommand}
 use Rattle.run_model.specs.FrameRecords.{Removes, asked_in, asks_in}
 use Rattle.run_model.specs.AskedSoFar.{lines_ask}
 use Rattle.dash_hall.specs.Growth.{GoesOn}
-use Rattle.dash_hall.specs.Hosts.{HostOrigin, IsHost, sends_by, PlacesBy, PostsFrame, asks_of, AsksFor}
+use Rattle.dash_hall.specs.Hosts.{HostOrigin, IsHost, sends_by, PlacesBy, PostsFrame, pass_asks, AsksFor}
 use Rattle.dash_threads.specs.Threads.{HasAsked}
 use Rattle.dash_hall.proofs.FramePosts.{posts_frame_by, told_whole}
 
@@ -31,7 +31,7 @@ frame_made (Err e) o o' p q q' b f g u phase i id delay alike same is began ends
 
 -- ---- a frame callback is removed
 
-pub removal_asks : (phase id : ℕ) (f g : Pass) (x y : Kept) → IsTurn f g x y → y ≡ record x { frames = removed x.frames phase id None } → AsksFor (Removes phase id None) f g
+pub removal_asks : (phase id : ℕ) (f g : Pass) (x y : Kept) → IsFrameTurn f g x y → y ≡ record x { frames = removed x.frames phase id None } → AsksFor (Removes phase id None) f g
 removal_asks phase id f g x y t is =
     let e = frame.Removed phase id None (removed_count (past x.frames) phase id None) in
     let left : x.frames.entries ++ e ∷ [] ≡ y.frames.entries = sym (ap (λ (z : Kept). z.frames.entries) is) in
@@ -39,5 +39,5 @@ removal_asks phase id f g x y t is =
 
 -- ---- what is told in lockstep is all that was asked for
 
-pub asked_in_lockstep : (past : List Timed) (fs : List Pass) → HasAsked in_lockstep past fs → (q : ℕ) (d : Pass) → q < length fs → asks_of (slice_index_or fs q d) ≡ lines_ask q past
-asked_in_lockstep past fs has q d near = sym (told_whole (asks_of (slice_index_or fs q d))) ∙ (has q d near ∙ told_whole (lines_ask q past))
+pub asked_in_lockstep : (past : List TimedCommand) (fs : List Pass) → HasAsked in_lockstep past fs → (q : ℕ) (d : Pass) → q < length fs → pass_asks (slice_index_or fs q d) ≡ lines_ask q past
+asked_in_lockstep past fs has q d near = sym (told_whole (pass_asks (slice_index_or fs q d))) ∙ (has q d near ∙ told_whole (lines_ask q past))

@@ -16,7 +16,7 @@ use Rattle.dash_script.specs.declared.script.Block.{Block}
 use Rattle.dash_script.specs.declared.script.Script.{Script}
 use Rattle.dash_script.specs.Causes.{commands, is_label, has_barrier}
 use Rattle.dash_script.specs.Reading.{HasText, label_fits, labels_fit}
-use Rattle.run_model.specs.Planned.{Unbars, call_of, Timed, lines_of, label_on, labels_on, planned}
+use Rattle.run_model.specs.Planned.{Unbars, call_of, TimedCommand, lines_of, label_on, labels_on, planned}
 use Rattle.run_model.specs.Parts.{lines_in}
 use Rattle.dash_threads.specs.declared.labels.Labelled.{Labelled}
 use Rattle.dash_threads.specs.Planning.{removal_of}
@@ -95,14 +95,14 @@ they_fit thread before (l ∷ ls) all =
     let parts = and_parts (label_fits before l.thread l.command) (labels_fit (before ++ l ∷ []) ls) all in
     one_fits thread before ls l (l.thread == thread) refl parts.0 (they_fit thread (before ++ l ∷ []) ls parts.1)
 
-pub its_commands : List Timed → List Command
+pub its_commands : List TimedCommand → List Command
 its_commands ts = map (λ t. t.command) ts
 
 -- a line of a block, at its time
-abbrev pub at_time : ℕ → Line → Timed
+abbrev pub at_time : ℕ → Line → TimedCommand
 at_time time l = record { time = time; command = l.command }
 
-timed_commands : (time : ℕ) (ls : List Line) → map (λ (t : Timed). t.command) (map (at_time time) ls) ≡ map (λ l. l.command) ls
+timed_commands : (time : ℕ) (ls : List Line) → map (λ (t : TimedCommand). t.command) (map (at_time time) ls) ≡ map (λ l. l.command) ls
 timed_commands time [] = refl
 timed_commands time (l ∷ ls) = ap (λ (cs : List Command). l.command ∷ cs) (timed_commands time ls)
 
@@ -226,7 +226,7 @@ in_option : (b : ℕ) (o : Option ℕ) (xs : List ℕ) → is_in b (cons_option 
 in_option b None xs = refl
 in_option b (Some x) xs = refl
 
-in_if_used : (q b : ℕ) (ts : List Timed) → is_in b (labels_on q ts) ≡ true → 1 ≤ uses_on q b (its_commands ts)
+in_if_used : (q b : ℕ) (ts : List TimedCommand) → is_in b (labels_on q ts) ≡ true → 1 ≤ uses_on q b (its_commands ts)
 unfolding its_commands
 in_if_used q b [] is = absurd cc
 in_if_used q b (t ∷ ts) is = by_head (is_one (label_on q t.command) b) (sym (in_option b (label_on q t.command) (labels_on q ts)) ∙ is) (in_if_used q b ts)
@@ -235,7 +235,7 @@ in_if_used q b (t ∷ ts) is = by_head (is_one (label_on q t.command) b) (sym (i
     by_head true is rest = omega arith
     by_head false is rest = (let some = rest is in omega (arith, some))
 
-used_not_in : (q b : ℕ) (ts : List Timed) (t : Bool) → is_in b (labels_on q ts) ≡ t → uses_on q b (its_commands ts) ≡ 0 → is_in b (labels_on q ts) ≡ false
+used_not_in : (q b : ℕ) (ts : List TimedCommand) (t : Bool) → is_in b (labels_on q ts) ≡ t → uses_on q b (its_commands ts) ≡ 0 → is_in b (labels_on q ts) ≡ false
 used_not_in q b ts true is none = absurd (let some = in_if_used q b ts is in omega (arith, some, none))
 used_not_in q b ts false is none = is
 
@@ -324,13 +324,13 @@ on_its_own b (Event l f m) is = absurd cc
 on_its_own b (Frame l p i d) is = absurd cc
 on_its_own b (Unframe l p i) is = absurd cc
 
-in_first : (b q : ℕ) (t : Timed) (ts : List Timed) → is_one (label_on q t.command) b ≡ true → is_in b (labels_on q (t ∷ ts)) ≡ true
+in_first : (b q : ℕ) (t : TimedCommand) (ts : List TimedCommand) → is_one (label_on q t.command) b ≡ true → is_in b (labels_on q (t ∷ ts)) ≡ true
 in_first b q t ts is = in_option b (label_on q t.command) (labels_on q ts) ∙ or_left (is_one (label_on q t.command) b) (is_in b (labels_on q ts)) is
 
-in_later : (b q : ℕ) (t : Timed) (ts : List Timed) → is_in b (labels_on q ts) ≡ true → is_in b (labels_on q (t ∷ ts)) ≡ true
+in_later : (b q : ℕ) (t : TimedCommand) (ts : List TimedCommand) → is_in b (labels_on q ts) ≡ true → is_in b (labels_on q (t ∷ ts)) ≡ true
 in_later b q t ts is = in_option b (label_on q t.command) (labels_on q ts) ∙ or_right (is_one (label_on q t.command) b) (is_in b (labels_on q ts)) is
 
-on_some : (b : ℕ) (ts : List Timed) → has_label b (its_commands ts) ≡ true → (q : ℕ) × (is_in b (labels_on q ts) ≡ true)
+on_some : (b : ℕ) (ts : List TimedCommand) → has_label b (its_commands ts) ≡ true → (q : ℕ) × (is_in b (labels_on q ts) ≡ true)
 unfolding its_commands
 on_some b [] has = absurd cc
 on_some b (t ∷ ts) has = at (is_label b t.command) refl has (on_some b ts)
@@ -343,10 +343,10 @@ on_some b (t ∷ ts) has = at (is_label b t.command) refl has (on_some b ts)
 
 -- ---- the removal of a barrier
 
-module _ (s : Script) (thread : ℕ) (text : HasText s) (past rest : List Timed) (l : Timed) (b : ℕ) (are : past ++ (l ∷ rest) ≡ lines_of thread s.blocks) (is : l.command ≡ Unbarrier b)
+module _ (s : Script) (thread : ℕ) (text : HasText s) (past rest : List TimedCommand) (l : TimedCommand) (b : ℕ) (are : past ++ (l ∷ rest) ≡ lines_of thread s.blocks) (is : l.command ≡ Unbarrier b)
     (bs : List Labelled) (labels : (q : ℕ) → labels_kept q bs ≡ labels_on q past) where
   all_labels : (q : ℕ) → labels_on q (lines_of thread s.blocks) ≡ labels_kept q bs ++ labels_on q (l ∷ rest)
-  all_labels q = ap (labels_on q) (sym are) ∙ (filter_map-append (λ (t : Timed). label_on q t.command) past (l ∷ rest) ∙ ap (λ (xs : List ℕ). xs ++ labels_on q (l ∷ rest)) (sym (labels q)))
+  all_labels q = ap (labels_on q) (sym are) ∙ (filter_map-append (λ (t : TimedCommand). label_on q t.command) past (l ∷ rest) ∙ ap (λ (xs : List ℕ). xs ++ labels_on q (l ∷ rest)) (sym (labels q)))
 
   was_posted : has_label b (its_commands past) ≡ true
   unfolding its_commands

@@ -4,7 +4,7 @@ use Rattle.std.specs.Prelude.{Result, Ok, Err, IfOk}
 use Rattle.loop_model.specs.declared.entry.Entry.{Entry}
 use Rattle.dash_script.specs.declared.script.Script.{Script}
 use Rattle.looper_run.specs.Holding.{Sender}
-use Rattle.run_model.specs.Planned.{entries_by, Timed, lines_of, labels_on}
+use Rattle.run_model.specs.Planned.{entries_by, TimedCommand, lines_of, labels_on}
 use Rattle.run_model.specs.AskedSoFar.{tokens_in}
 use Rattle.run_model.specs.Moments.{Mode, IsUptime}
 use Rattle.run_model.specs.Parts.{AreOfClock, MakeCalls}
@@ -15,7 +15,7 @@ use Rattle.dash_hall.proofs.Badges.{alike_length, alike_at}
 use Rattle.dash_hall.proofs.Clocking.{if_free}
 use Rattle.dash_script.specs.declared.script.Command.{Command}
 use Rattle.dash_threads.specs.declared.thread.PostingThread.{PostingThread}
-use Rattle.dash_threads.specs.Threads.{labels_kept, tokens_kept, IsUpTo, Takes, TakesAt, ThreadKeeps, known_of, HaveSeenSame}
+use Rattle.dash_threads.specs.Threads.{labels_kept, tokens_kept, IsUpTo, RunsLine, TakesAt, ThreadKeeps, known_of, HaveSeenSame}
 use Rattle.dash_threads.proofs.ThreadHears.{asked_heard, turned_heard}
 
 module _ (ps ps' : List Sender) (same : HaveSeenSame ps ps') (q : ℕ) (d : Sender) (near : q < length ps') where
@@ -34,7 +34,7 @@ module _ (ps ps' : List Sender) (same : HaveSeenSame ps ps') (q : ℕ) (d : Send
   clock_same : (m : Mode) → IsByClock m (get_or ps q d) → IsByClock m (get_or ps' q d)
   clock_same m by = subst (λ (es : List Entry). AreOfClock m (is_by (get_or ps' q d).sender) es) (sym seen_same) (subst (λ (k : ℕ). AreOfClock m (is_by k) (get_or ps q d).view.seen) (sym sender_same) by)
 
-pub up_to_still : (m : Mode) (s : Script) (past : List Timed) (a b : PostingThread) → ThreadKeeps HaveSeenSame a b → IsUpTo m s past a → IsUpTo m s past b
+pub up_to_still : (m : Mode) (s : Script) (past : List TimedCommand) (a b : PostingThread) → ThreadKeeps HaveSeenSame a b → IsUpTo m s past a → IsUpTo m s past b
 up_to_still m s past a b k up =
     let ps = a.kit.posters.items in
     let ps' = b.kit.posters.items in
@@ -63,6 +63,6 @@ ok_so (Err e) P h = tt
 
 -- a command that was run at a moment that its line may have is the line's
 pub takes_at : (m : Mode) (s : Script) (time : ℕ) (c : Command) (u v w : PostingThread) (now passed : ℕ) → m.lockstep ≡ false → v ≡ record u { passed = passed }
-    → IsUptime m time now → TakesAt false s now c v w → Takes m s (record { time = time; command = c }) u w
+    → IsUptime m time now → TakesAt false s now c v w → RunsLine m s (record { time = time; command = c }) u w
 takes_at m s time c u v w now passed free same may at =
-    subst (λ (z : PostingThread). Takes m s (record { time = time; command = c }) z w) same (at m time (if_free m.lockstep (false ≡ false) (λ h. refl)) may)
+    subst (λ (z : PostingThread). RunsLine m s (record { time = time; command = c }) z w) same (at m time (if_free m.lockstep (false ≡ false) (λ h. refl)) may)

@@ -7,7 +7,7 @@ use Rattle.shared_queue.specs.Constants.{Constants}
 use Rattle.shared_queue.specs.Known.{Shared, IsOf}
 use Rattle.looper_run.specs.Holding.{Sender}
 use Rattle.choreographer.specs.declared.view.Constants.{Constants as FrameConstants}
-use Rattle.choreographer.specs.Known.{Shared as Frames, Known as Pass, IsOf as IsFrameOf}
+use Rattle.choreographer.specs.Known.{SharedFrames, Pass, IsPassOf}
 use Rattle.dash_hall.specs.declared.hall.Hall.{Hall}
 use Rattle.dash_hall.specs.Kits.{IsHall}
 use Rattle.run_model.specs.Moments.{Mode, IfFree}
@@ -29,13 +29,13 @@ module _ (s : Script) (hall : Hall) (t : PostingThread) (h : IsHall s hall) (own
       let within : i < s.loopers = omega (arith, near, queue_count hall.lockstep s hall.pool hall.queues.items h.queues) in
       ap (λ (c : Constants TableId). c.home) (queue_is hall.lockstep s hall.pool hall.queues.items h.queues i q within is)
 
-  pub its_pass : (c : Frames) (p : Pass) → c ≡ get_or hall.choreographers.items i c → p ≡ get_or t.kit.frames.items i p → i < length t.kit.frames.items → IsFrameOf p c
+  pub its_pass : (c : SharedFrames) (p : Pass) → c ≡ get_or hall.choreographers.items i c → p ≡ get_or t.kit.frames.items i p → i < length t.kit.frames.items → IsPassOf p c
   its_pass c p is is' near = pass_is t.number hall.choreographers.items t.kit.frames.items own.frames i p c near is' is
 
-  pub its_phases : (c : Frames) → c ≡ get_or hall.choreographers.items i c → i < length hall.choreographers.items → c.constants.phases ≡ phase_count s.edition
+  pub its_phases : (c : SharedFrames) → c ≡ get_or hall.choreographers.items i c → i < length hall.choreographers.items → c.constants.phases ≡ phase_count s.edition
   its_phases c is near =
       let within : i < s.loopers = omega (arith, near, choreographer_count s hall.choreographers.items h.choreographers) in
-      ap (λ (z : Frames). z.constants.phases) is ∙ ap (λ (k : FrameConstants). k.phases) (choreographer_at s hall.choreographers.items h.choreographers i c within)
+      ap (λ (z : SharedFrames). z.constants.phases) is ∙ ap (λ (k : FrameConstants). k.phases) (choreographer_at s hall.choreographers.items h.choreographers i c within)
 
 -- in free mode its posters' queues are in free mode, as the hall is
 pub its_mode : (m : Mode) (s : Script) (hall : Hall) (t : PostingThread) → IsHall s hall → IsThread s hall t → IfFree m (hall.lockstep ≡ false) → AreInMode m t.kit.posters.items

@@ -7,9 +7,9 @@ use Rattle.std.proofs.lemmas.List.{get_or_read, get_or-set_same, get_or-set_othe
 use Rattle.loop_model.specs.declared.entry.Entry.{Entry}
 use Rattle.dash_script.specs.declared.script.Script.{Script}
 use Rattle.looper_run.specs.Holding.{Sender}
-use Rattle.run_model.specs.Planned.{plain, call_of, Timed, planned, lines_on, IsNoEarlier}
+use Rattle.run_model.specs.Planned.{bare_call, call_of, TimedCommand, planned, lines_on, IsNoEarlier}
 use Rattle.run_model.specs.AskedSoFar.{tokens_in}
-use Rattle.run_model.specs.Moments.{Mode, IfFree, IsUptime, IsMoment}
+use Rattle.run_model.specs.Moments.{Mode, IfFree, IsUptime, IsMomentOf}
 use Rattle.run_model.specs.Parts.{MakeCalls}
 use Rattle.run_model.proofs.RunLaws.{MakeCalls-line, MakeCalls-skip}
 use Rattle.dash_hall.specs.declared.calls.QueueCall.{QueueCall}
@@ -61,21 +61,21 @@ calls_nowhere ps i c token far = record { long = refl; here = λ d near. absurd 
 
 -- an uptime that a line may have is in free mode no earlier than its block, and a moment of the clock
 pub late_of : (m : Mode) (time u : ℕ) → IsUptime m time u → IfFree m (time ≤ u)
-late_of m time u up = if_free m.lockstep (time ≤ u) (λ free. (MatchBool-at_false (u ≡ time) ((time ≤ u) × IsMoment m u) free up).0)
+late_of m time u up = if_free m.lockstep (time ≤ u) (λ free. (MatchBool-at_false (u ≡ time) ((time ≤ u) × IsMomentOf m u) free up).0)
 
-pub moment_of_uptime : (m : Mode) (time u : ℕ) → IsUptime m time u → IfFree m (IsMoment m u)
-moment_of_uptime m time u up = if_free m.lockstep (IsMoment m u) (λ free. (MatchBool-at_false (u ≡ time) ((time ≤ u) × IsMoment m u) free up).1)
+pub moment_of_uptime : (m : Mode) (time u : ℕ) → IsUptime m time u → IfFree m (IsMomentOf m u)
+moment_of_uptime m time u up = if_free m.lockstep (IsMomentOf m u) (λ free. (MatchBool-at_false (u ≡ time) ((time ≤ u) × IsMomentOf m u) free up).1)
 
 -- what a line does at this uptime to the thread's entries on a queue: nothing, where it plans no call there, or it makes that call, no earlier than its block
-abbrev pub StepOn : Mode → Script → List ℕ → ℕ → ℕ → Timed → List Entry → List Entry → Type 0
+abbrev pub StepOn : Mode → Script → List ℕ → ℕ → ℕ → TimedCommand → List Entry → List Entry → Type 0
 StepOn m s labels q u l es fs =
     ((planned s labels q u l.command ≡ None) × (fs ≡ es))
-    ⊎ ((e : Entry) × (fs ≡ es ++ e ∷ []) × (option_map (call_of (tokens_in es)) (planned s labels q u l.command) ≡ Some (plain e.call)) × IsNoEarlier m l.time e.call)
+    ⊎ ((e : Entry) × (fs ≡ es ++ e ∷ []) × (option_map (call_of (tokens_in es)) (planned s labels q u l.command) ≡ Some (bare_call e.call)) × IsNoEarlier m l.time e.call)
 
-on_here : (s : Script) (labels : List ℕ) (q u : ℕ) (l : Timed) (b : Bool) → is_some (planned s labels q u l.command) ≡ b → lines_on s labels q (l ∷ []) ≡ cond b (l ∷ []) []
+on_here : (s : Script) (labels : List ℕ) (q u : ℕ) (l : TimedCommand) (b : Bool) → is_some (planned s labels q u l.command) ≡ b → lines_on s labels q (l ∷ []) ≡ cond b (l ∷ []) []
 on_here s labels q u l b is = ap (λ (t : Bool). cond t (l ∷ []) []) (at_each_uptime s labels q u l.command ∙ is)
 
-pub step_calls : (m : Mode) (s : Script) (labels : List ℕ) (q u : ℕ) (past : List Timed) (l : Timed) (es fs : List Entry) → IsUptime m l.time u → MakeCalls m s labels q past es → StepOn m s labels q u l es fs → MakeCalls m s labels q (past ++ l ∷ []) fs
+pub step_calls : (m : Mode) (s : Script) (labels : List ℕ) (q u : ℕ) (past : List TimedCommand) (l : TimedCommand) (es fs : List Entry) → IsUptime m l.time u → MakeCalls m s labels q past es → StepOn m s labels q u l es fs → MakeCalls m s labels q (past ++ l ∷ []) fs
 step_calls m s labels q u past l es fs allowed made (inl (none, same)) =
     subst (λ (z : List Entry). MakeCalls m s labels q (past ++ l ∷ []) z) (sym same)
     (MakeCalls-skip m s labels q past l es made (on_here s labels q u l false (ap is_some none)))

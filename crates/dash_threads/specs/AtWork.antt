@@ -2,7 +2,7 @@
 use Rattle.std.specs.Prelude.{◌≡◌, ℕ, true, false, List, Result, OnOk}
 use Rattle.dash_script.specs.declared.script.Script.{Script}
 use Rattle.dash_script.specs.Reading.{HasText}
-use Rattle.run_model.specs.Planned.{Timed}
+use Rattle.run_model.specs.Planned.{TimedCommand}
 use Rattle.dash_hall.specs.declared.hall.Hall.{Hall}
 use Rattle.dash_hall.specs.Kits.{IsHall}
 use Rattle.dash_threads.specs.declared.thread.PostingThread.{PostingThread}
@@ -36,12 +36,12 @@ pub record RunsUnlessGivenUp (s : Script) (h : Hall) (before after : PostingThre
   pub stays : before.gave_up ≡ true → after ≡ before
 
 -- so it is, and unless it has given up the thread did this, and came to the gate once for each of these lines
-pub record RunsLines (s : Script) (h : Hall) (lines : List Timed) (Did : PostingThread → PostingThread → Type 0) (before after : PostingThread) : Type 0 where
+pub record RunsLines (s : Script) (h : Hall) (lines : List TimedCommand) (Did : PostingThread → PostingThread → Type 0) (before after : PostingThread) : Type 0 where
   pub runs : RunsUnlessGivenUp s h before after
   pub made : after.gave_up ≡ false → Did before after
   pub passed : HasPassed lines before after
 
--- the thread works on, and unless memory was wanting it did this
+-- the thread works on, and unless memory ran out it did this
 pub record DoesWork {A E : Type 0} (s : Script) (h : Hall) (Did : PostingThread → PostingThread → Type 0) (before after : PostingThread) (result : Result A E)
     : Type 0 where
   pub works : WorksOn s h before after

@@ -5,9 +5,9 @@ use Rattle.std.specs.List.{filter_map}
 use Rattle.dash_script.specs.declared.script.Block.{Block}
 use Rattle.dash_script.specs.declared.script.Script.{Script}
 use Rattle.looper_run.specs.Holding.{Sender}
-use Rattle.choreographer.specs.Known.{Known as Pass}
+use Rattle.choreographer.specs.Known.{Pass}
 use Rattle.run_model.specs.Moments.{Mode, IfFree, IsUptime}
-use Rattle.run_model.specs.Planned.{Timed, lines_of, labels_on}
+use Rattle.run_model.specs.Planned.{TimedCommand, lines_of, labels_on}
 use Rattle.run_model.specs.Parts.{lines_in, MakeCalls}
 use Rattle.run_model.specs.FrameRecords.{as_told}
 use Rattle.run_model.specs.AskedSoFar.{lines_ask, tokens_in}
@@ -20,7 +20,7 @@ use Rattle.dash_script.specs.declared.script.Command.TheVariants.{Barrier}
 use Rattle.dash_threads.specs.declared.labels.Labelled.{Labelled}
 use Rattle.dash_threads.specs.declared.planned.PlannedCall.{PlannedCall}
 use Rattle.dash_hall.specs.Growth.{own, Makes}
-use Rattle.dash_hall.specs.Hosts.{asks_of}
+use Rattle.dash_hall.specs.Hosts.{pass_asks}
 use Rattle.dash_hall.specs.ByClock.{IsByClock}
 use Rattle.dash_hall.specs.QueueCalls.{call_made, tokens_of, posts_barrier, IsAtItsMoment}
 use Rattle.dash_hall.specs.declared.calls.QueueCall.{QueueCall}
@@ -38,7 +38,7 @@ pub record IsThread (s : Script) (hall : Hall) (t : PostingThread) : Type 0 wher
   pub pass : t.kit.pass.home ≡ hall.pool
 
 -- on each queue the thread has made the calls of these lines, the first of its lines, and no others
-abbrev pub HasCalled : Mode → Script → List Timed → ℕ → List Sender → Type 0
+abbrev pub HasCalled : Mode → Script → List TimedCommand → ℕ → List Sender → Type 0
 HasCalled m s past thread posters = (q : ℕ) (d : Sender) → q < length posters
     → MakeCalls m s (labels_on q (lines_of thread s.blocks)) q past (own (slice_index_or posters q d))
 
@@ -48,12 +48,12 @@ AreByClock m posters = (q : ℕ) (d : Sender) → q < length posters → IsByClo
 
 -- it has asked each choreographer for the posts and removals of frame callbacks that these lines ask for, in order, and for no others; in free mode the due
 -- times are left open
-abbrev pub HasAsked : Mode → List Timed → List Pass → Type 0
+abbrev pub HasAsked : Mode → List TimedCommand → List Pass → Type 0
 HasAsked m past frames = (q : ℕ) (d : Pass) → q < length frames
-    → map (as_told m.lockstep) (asks_of (slice_index_or frames q d)) ≡ map (as_told m.lockstep) (lines_ask q past)
+    → map (as_told m.lockstep) (pass_asks (slice_index_or frames q d)) ≡ map (as_told m.lockstep) (lines_ask q past)
 
 -- it has taken a turn there for each of these, and no other
-abbrev pub HasTurned : List Timed → List Pass → Type 0
+abbrev pub HasTurned : List TimedCommand → List Pass → Type 0
 HasTurned past frames = (q : ℕ) (d : Pass) → q < length frames → (slice_index_or frames q d).view.turns ≡ length (lines_ask q past)
 
 -- the barriers that a thread keeps, on one queue: their labels and their tokens, in order
@@ -64,35 +64,35 @@ abbrev pub tokens_kept : ℕ → List Labelled → List ℕ
 tokens_kept q bs = filter_map (λ b. if b.looper == q then Some b.token else None) bs
 
 -- a thread keeps the barriers that these lines post, each with the token that was answered
-pub record KeepsBarriers (past : List Timed) (barriers : List Labelled) (posters : List Sender) : Type 0 where
+pub record KeepsBarriers (past : List TimedCommand) (barriers : List Labelled) (posters : List Sender) : Type 0 where
   pub labels : (q : ℕ) → labels_kept q barriers ≡ labels_on q past
   pub tokens : (q : ℕ) (d : Sender) → q < length posters → tokens_kept q barriers ≡ tokens_in (own (slice_index_or posters q d))
 
 -- how far a thread has come, by its number, its barriers, its posters and its passes: it has run these lines, the first of its lines
-pub record Progress (m : Mode) (s : Script) (past : List Timed) (n : ℕ) (bs : List Labelled) (ps : List Sender) (fs : List Pass) : Type 0 where
+pub record Progress (m : Mode) (s : Script) (past : List TimedCommand) (n : ℕ) (bs : List Labelled) (ps : List Sender) (fs : List Pass) : Type 0 where
   pub called : HasCalled m s past n ps
   pub clocked : AreByClock m ps
   pub barriers : KeepsBarriers past bs ps
   pub asked : HasAsked m past fs
   pub turned : HasTurned past fs
 
-abbrev pub IsUpTo : Mode → Script → List Timed → PostingThread → Type 0
+abbrev pub IsUpTo : Mode → Script → List TimedCommand → PostingThread → Type 0
 IsUpTo m s past t = Progress m s past t.number t.barriers.items t.kit.posters.items t.kit.frames.items
 
 -- where a block comes next among the thread's lines, the thread has run its lines too
 abbrev pub Continues : Mode → Script → Block → PostingThread → PostingThread → Type 0
-Continues m s b before after = (past rest : List Timed) → past ++ (lines_in before.number b ++ rest) ≡ lines_of before.number s.blocks
+Continues m s b before after = (past rest : List TimedCommand) → past ++ (lines_in before.number b ++ rest) ≡ lines_of before.number s.blocks
     → IsUpTo m s past before → IsUpTo m s (past ++ lines_in before.number b) after
 
 -- where this line comes next among the thread's lines, the thread has run it too
-abbrev pub Takes : Mode → Script → Timed → PostingThread → PostingThread → Type 0
-Takes m s l before after = (past rest : List Timed) → past ++ (l ∷ rest) ≡ lines_of before.number s.blocks
+abbrev pub RunsLine : Mode → Script → TimedCommand → PostingThread → PostingThread → Type 0
+RunsLine m s l before after = (past rest : List TimedCommand) → past ++ (l ∷ rest) ≡ lines_of before.number s.blocks
     → IsUpTo m s past before → IsUpTo m s (past ++ l ∷ []) after
 
 -- at this uptime it has run the command, in each mode and for each time of a block that may have it; free mode is the hall's
 abbrev pub TakesAt : Bool → Script → ℕ → Command → PostingThread → PostingThread → Type 0
 TakesAt lockstep s u command before after = (m : Mode) (time : ℕ) → IfFree m (lockstep ≡ false) → IsUptime m time u
-    → Takes m s (record { time = time; command = command }) before after
+    → RunsLine m s (record { time = time; command = command }) before after
 
 -- so it has at each uptime
 abbrev pub TakesAtAny : Bool → Script → Command → PostingThread → PostingThread → Type 0
@@ -143,7 +143,7 @@ passes_more zero passed = passed
 passes_more (suc n) passed = one_pass_more (passes_more n passed)
 
 -- unless it has given up, the thread came to the gate once for each of these lines
-abbrev pub HasPassed : List Timed → PostingThread → PostingThread → Type 0
+abbrev pub HasPassed : List TimedCommand → PostingThread → PostingThread → Type 0
 HasPassed lines before after = after.gave_up ≡ false → after.passed ≡ passes_more (length lines) before.passed
 
 -- a thread that has run nothing yet
@@ -181,15 +181,15 @@ abbrev pub rungs_of : PostingThread → List ℕ
 rungs_of t = map (λ p. p.view.rung) t.kit.posters.items
 
 -- the counts, that of this looper one more
-abbrev pub one_more : ℕ → List ℕ → List ℕ
-one_more looper [] = []
-one_more zero (x ∷ xs) = suc x ∷ xs
-one_more (suc looper) (x ∷ xs) = x ∷ one_more looper xs
+abbrev pub one_more_at : ℕ → List ℕ → List ℕ
+one_more_at looper [] = []
+one_more_at zero (x ∷ xs) = suc x ∷ xs
+one_more_at (suc looper) (x ∷ xs) = x ∷ one_more_at looper xs
 
 -- the counts, that of a looper one more where there is one
 abbrev pub more_for : Option ℕ → List ℕ → List ℕ
 more_for None rungs = rungs
-more_for (Some looper) rungs = one_more looper rungs
+more_for (Some looper) rungs = one_more_at looper rungs
 
 -- the looper that has to look again by a clock: that which the command asks for a frame, or hands an event
 abbrev pub looper_woken : Command → Option ℕ

@@ -3,10 +3,10 @@ ghost use Rattle.std.specs.Prelude.{◌≡◌, true, false, IfOk, IfErr};
 ghost use Rattle.run_model.specs.Moments.{IsUptime};
 ghost use Rattle.run_model.specs.Planned.{lines_of};
 ghost use Rattle.dash_threads.specs.AtWork.{IsAtWork, StaysAtWork, RunsUnlessGivenUp, RunsLines, RingsBells};
-ghost use Rattle.dash_threads.specs.Threads.{Takes, TakesAt, Continues, RunsAll, one_pass_more};
+ghost use Rattle.dash_threads.specs.Threads.{RunsLine, TakesAt, Continues, RunsAll, one_pass_more};
 ghost use Rattle.run_model.specs.ByClock.{in_free_mode};
 ghost use Rattle.run_model.specs.Parts.{lines_in};
-ghost use Rattle.dash_threads.specs.Threads.{rungs_of, one_more, more_for, looper_woken};
+ghost use Rattle.dash_threads.specs.Threads.{rungs_of, one_more_at, more_for, looper_woken};
 
 use crate::thread::{PostingThread, Timed};
 use dash_hall::{Hall, Look, Timer};
@@ -87,7 +87,7 @@ impl PostingThread {
         requires mode { hall.now.lockstep ≡ false }
         ensures runs { RunsUnlessGivenUp script.now hall.now self.old self.new }
         ensures passed { self.new.gave_up ≡ false → self.new.passed ≡ one_pass_more self.old.passed }
-        ensures made { self.new.gave_up ≡ false → Takes (in_free_mode (C.shows pace.now.timer.now.clock.now) pace.now.timer.now.start) script.now
+        ensures made { self.new.gave_up ≡ false → RunsLine (in_free_mode (C.shows pace.now.timer.now.clock.now) pace.now.timer.now.start) script.now
             (record { time = timed.now; command = timed.command }) self.old self.new }
         ensures rung { self.new.gave_up ≡ false → rungs_of self.new ≡ more_for (looper_woken timed.command) (rungs_of self.old) }
     {
@@ -150,7 +150,7 @@ impl PostingThread {
     /// Rings the bell of this looper.
     pub(crate) fn nudge<R: Wait>(&mut self, rt: &R, hall: &Hall, script: &Script, looper: u32)
         requires at_work { IsAtWork script.now hall.now self.old }
-        ensures { RingsBells script.now hall.now (one_more looper (rungs_of self.old)) self.old self.new }
+        ensures { RingsBells script.now hall.now (one_more_at looper (rungs_of self.old)) self.old self.new }
     {
         let place = looper as usize;
         if place >= self.kit.posters.len() {

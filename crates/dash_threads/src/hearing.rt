@@ -1,7 +1,7 @@
 //! How a thread's posters and passes hear others.
 ghost use Rattle.std.specs.Prelude.{◌≡◌, ◌<◌};
 ghost use Rattle.shared_queue.specs.Known.{IsOf};
-ghost use Rattle.choreographer.specs.Known.{IsOf as IsFrameOf};
+ghost use Rattle.choreographer.specs.Known.{IsPassOf};
 ghost use Rattle.dash_hall.specs.Hearing.{HasHeard, HaveHeardAt, AreKept, AreReady, AreKnown, PassHasHeard, ArePassesReady, ArePassesKnown};
 ghost use Rattle.dash_threads.specs.Threads.{ThreadKeeps, TellsPass, HearsPass};
 
@@ -46,7 +46,7 @@ impl PostingThread {
     /// Lets another pass of the choreographer at this place hear the thread's. It takes no turn.
     pub fn tell_pass(&mut self, choreographer: &Choreographer, place: usize, other: &mut FramePass)
         requires ready { ArePassesReady place choreographer.now self.old.kit.frames.items }
-        requires other { IsFrameOf other.old choreographer.now }
+        requires other { IsPassOf other.old choreographer.now }
         ensures kept { TellsPass self.old self.new }
         ensures heard { PassHasHeard other.old other.new }
         ensures told { ArePassesKnown place other.new.view.heard self.old.kit.frames.items }
@@ -57,7 +57,7 @@ impl PostingThread {
     /// Lets its pass of the choreographer at this place hear another one, which has heard all that it has. It takes no turn.
     pub fn hear_pass(&mut self, choreographer: &Choreographer, place: usize, other: &mut FramePass)
         requires ready { ArePassesReady place choreographer.now self.old.kit.frames.items }
-        requires other { IsFrameOf other.old choreographer.now }
+        requires other { IsPassOf other.old choreographer.now }
         requires known { ArePassesKnown place other.old.view.heard self.old.kit.frames.items }
         ensures kept { HearsPass place other.old.view.heard self.old self.new }
         ensures other { other.new ≡ other.old }

@@ -2,7 +2,7 @@
 ghost use Rattle.std.specs.Prelude.{◌≡◌, ◌<◌, length, true, false, is_some, IfOk, OnOk};
 ghost use Rattle.dash_script.specs.declared.script.Script.{Script as TheScript};
 ghost use Rattle.dash_script.specs.declared.script.Command.TheVariants.{Frame, Unframe};
-ghost use Rattle.choreographer.specs.Known.{IsOf as IsFrameOf};
+ghost use Rattle.choreographer.specs.Known.{IsPassOf};
 ghost use Rattle.run_model.specs.Moments.{Mode, in_lockstep};
 ghost use Rattle.dash_hall.specs.Growth.{GoesOn, MayCall};
 ghost use Rattle.run_model.specs.Parts.{lines_in};
@@ -10,8 +10,8 @@ ghost use Rattle.dash_hall.specs.Kits.{IsUnusedKit, frame_badge_of};
 ghost use Rattle.dash_hall.specs.Hosts.{PostsFrame};
 ghost use Rattle.dash_hall.specs.QueueCalls.{posts_barrier};
 ghost use Rattle.dash_threads.specs.AtWork.{IsAtWork, StaysAtWork, WorksOn, RunsUnlessGivenUp, RunsLines, DoesWork};
-ghost use Rattle.dash_threads.specs.Threads.{CallsAt, with_barrier, MakesPlanned, Takes, TakesAt, TakesAtAny, Continues, HasBegun};
-ghost use Rattle.dash_threads.specs.Threads.{one_pass_more, rungs_of, one_more};
+ghost use Rattle.dash_threads.specs.Threads.{CallsAt, with_barrier, MakesPlanned, RunsLine, TakesAt, TakesAtAny, Continues, HasBegun};
+ghost use Rattle.dash_threads.specs.Threads.{one_pass_more, rungs_of, one_more_at};
 
 use crate::labels::Labelled;
 use crate::planned::call_for;
@@ -137,7 +137,7 @@ impl PostingThread {
         requires at_work { IsAtWork script.now hall.now self.old }
         ensures runs { RunsUnlessGivenUp script.now hall.now self.old self.new }
         ensures passed { self.old.gave_up ≡ false → self.new.passed ≡ one_pass_more self.old.passed }
-        ensures made { self.new.gave_up ≡ false → Takes in_lockstep script.now (record { time = timed.now; command = timed.command }) self.old self.new }
+        ensures made { self.new.gave_up ≡ false → RunsLine in_lockstep script.now (record { time = timed.now; command = timed.command }) self.old self.new }
     {
         if self.gave_up {
             return;
@@ -163,7 +163,7 @@ impl PostingThread {
         ensures same { StaysAtWork script.now hall.now self.old self.new }
         ensures heeds { look ≡ true → self.new ≡ record self.old { gave_up = true } }
         ensures bells { self.new.gave_up ≡ false → rungs_of self.new ≡ rungs_of self.old }
-        ensures nudges { look ≡ false → self.old.gave_up ≡ false → self.new.gave_up ≡ true → rungs_of self.new ≡ one_more 0 (rungs_of self.old) }
+        ensures nudges { look ≡ false → self.old.gave_up ≡ false → self.new.gave_up ≡ true → rungs_of self.new ≡ one_more_at 0 (rungs_of self.old) }
         ensures made { self.new.gave_up ≡ false → TakesAt hall.now.lockstep script.now timed.now timed.command self.old self.new }
     {
         if look.is_stopped() {
@@ -180,7 +180,7 @@ impl PostingThread {
         requires at_work { IsAtWork script.now hall.now self.old }
         ensures same { StaysAtWork script.now hall.now self.old self.new }
         ensures gave_up { self.new.gave_up ≡ true }
-        ensures rung { rungs_of self.new ≡ one_more 0 (rungs_of self.old) }
+        ensures rung { rungs_of self.new ≡ one_more_at 0 (rungs_of self.old) }
     {
         self.gave_up = true;
         hall.stop.stop(rt);
@@ -384,7 +384,7 @@ fn post_frame<R: Wait>(
     post: FramePost,
 ) -> Result<(), NoMemory>
     requires ready { MayCall screen.now.queue.now screen.now.pool.now poster.old pass.old }
-    requires frames { IsFrameOf frames.old screen.now.choreographer.now × (post.phase < screen.now.choreographer.now.constants.phases) }
+    requires frames { IsPassOf frames.old screen.now.choreographer.now × (post.phase < screen.now.choreographer.now.constants.phases) }
     ensures on { GoesOn poster.old poster.new pass.old pass.new }
     ensures frames { frame_badge_of frames.new ≡ frame_badge_of frames.old }
     ensures made { OnOk result (PostsFrame screen.now.handler.id post.now post.phase post.id post.delay poster.old poster.new frames.old frames.new) }

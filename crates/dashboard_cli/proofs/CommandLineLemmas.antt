@@ -8,7 +8,7 @@ use Rattle.clap.specs.declared.error.ErrorKind.{ErrorKind}
 use Rattle.clap.specs.declared.error.ErrorKind.TheVariants.{OutOfMemory}
 use Rattle.std.specs.Str.Parse.{AllDigits, ParsesUnsigned, digits_value}
 use Rattle.clap.proofs.OnLiterals.{clap_on_literals}
-use Rattle.dashboard_cli.specs.CommandLine.{dashboard_app, HasNumber, HasRows, IsFound, name_of, HasFree}
+use Rattle.dashboard_cli.specs.CommandLine.{dashboard_app, HasNumber, HasRows, IsCommandFound, name_of, HasFree}
 use Rattle.dashboard_cli.specs.Words.{IsInRange, IsListed, IsSpelled}
 use Rattle.std.specs.Prelude.{IfNone, IsSomeAnd, None, unwrap_or}
 use Rattle.dashboard_cli.specs.declared.words.Command.{Command}
@@ -20,7 +20,7 @@ pub record IsParsed (words : List (List ℕ)) (Found : Type 0) : Type 0 where
   pub found : Found
 
 abbrev Finds : Command → List (List ℕ) → Type 0
-Finds command words = IsParsed words (IsFound command (subcommand_of dashboard_app words))
+Finds command words = IsParsed words (IsCommandFound command (subcommand_of dashboard_app words))
 
 abbrev Makes : List ℕ → List ℕ → List (List ℕ) → Type 0
 Makes number runs words = IsParsed words (IsSomeAnd (subcommand_of dashboard_app words) (λ f. (f.0 ≡ codes "make") × HasNumber number runs f.1))
@@ -177,7 +177,7 @@ parses n bs r small is given =
 
 -- ---- the words that are refused
 
--- the parser refuses no spelling of a command but for want of memory
+-- the parser refuses no spelling of a command except when out of memory
 pub not_listed : (app : App) (words : List (List ℕ)) (kind : ErrorKind) → app ≡ dashboard_app
     → (takes app words ≡ true → kind ≡ OutOfMemory) → (kind ≡ OutOfMemory → ⊥) → IsListed words → ⊥
 not_listed app words kind same passes refused listed =
@@ -186,12 +186,12 @@ not_listed app words kind same passes refused listed =
 -- where the words spell a command, that command is the one which is read
 pub reads_listed : (app : App) (words : List (List ℕ)) (rows : Option (List ℕ × List Row)) (read : Option Command) → app ≡ dashboard_app
     → (is_simple app ≡ true → rows ≡ subcommand_of app words)
-    → ((command : Command) → IsInRange command → IsFound command rows → read ≡ Some command)
+    → ((command : Command) → IsInRange command → IsCommandFound command rows → read ≡ Some command)
     → ((command : Command) → read ≡ Some command → IsSpelled command words → ⊥) → IsListed words → ⊥
 reads_listed app words rows read same matches found not_spelled listed =
     let command = listed.0 in
     let rows_are = matches (ap is_simple same ∙ is_simple_app) ∙ ap (λ (a : App). subcommand_of a words) same in
-    let is_found = subst (IsFound command) (sym rows_are) (finds command words listed.1.fits listed.1.spelled).found in
+    let is_found = subst (IsCommandFound command) (sym rows_are) (finds command words listed.1.fits listed.1.spelled).found in
     not_spelled command (found command listed.1.fits is_found) listed.1.spelled
 
 -- a command that was read, and is not spelled by the words, is the only one that was read

@@ -8,23 +8,23 @@ use Rattle.std.proofs.lemmas.List.FromFn.{map-range_with_len_more}
 use Rattle.loop_model.specs.declared.entry.Entry.{Entry}
 use Rattle.loop_model.specs.Fates.{fates}
 use Rattle.dash_script.specs.declared.script.Script.{Script as ScriptData}
-use Rattle.dash_script.specs.Accepting.{IsText}
+use Rattle.dash_script.specs.Accepting.{IsScriptText}
 use Rattle.run_model.specs.Planned.{history_of}
-use Rattle.run_model.specs.Text.{Words, fates_line, history_lines, line_text}
+use Rattle.run_model.specs.Text.{LineWords, fates_line, history_lines, line_text}
 use Rattle.inbox_queue.specs.declared.parcel.Parcel.{Parcel}
 use Rattle.inbox_queue.specs.declared.run.InboxReport.{InboxReport}
 use Rattle.inbox_queue.specs.Bad.{bad_line}
 use Rattle.dashboard_cli.specs.InboxText.{admitted_from, from_line, inbox_lines, inbox_text}
-use Rattle.dashboard_cli.specs.Works.{limit, Known, ReadsWhole, Says}
+use Rattle.dashboard_cli.specs.Works.{limit, KnownBytes, ReadsWhole, Says}
 use Rattle.dashboard_cli.specs.OtherWorks.{inbox_scripts, IsInboxText, RefusesInbox}
-use Rattle.dashboard_cli.specs.Steps.{IsNone, Stops}
+use Rattle.dashboard_cli.specs.Steps.{IsRefusedInput, StopsBeforeText}
 use Rattle.dashboard_cli.specs.declared.status.Cause.TheVariants as cause
 use Rattle.dashboard_cli.specs.declared.status.Status.{Status}
 use Rattle.dashboard_cli.specs.declared.status.Status.TheVariants.{Ok, Usage, Script, ReadFault, WriteFault, NoMemory, TooLong, Trace}
 
 -- a script with a line that such a run doesn't know is the only one of its text
-pub refused_by_line : (input : List ℕ) (script : ScriptData) (line : ℕ) → IsText input script → bad_line script ≡ Some line
-    → IsNone inbox_scripts input (Script line cause.Inbox)
+pub refused_by_line : (input : List ℕ) (script : ScriptData) (line : ℕ) → IsScriptText input script → bad_line script ≡ Some line
+    → IsRefusedInput inbox_scripts input (Script line cause.Inbox)
 refused_by_line input script line is bad = (
   (script, is, bad),
   λ taken.
@@ -33,8 +33,8 @@ refused_by_line input script line is bad = (
 )
 
 -- a text that a run through an inbox refuses stops the command that read it whole
-pub inbox_stops : (before after : Known) (input given : List ℕ) (status : Status) → ReadsWhole limit before after input → given ≡ input
-    → IsNone inbox_scripts given status → Stops inbox_scripts before after status
+pub inbox_stops : (before after : KnownBytes) (input given : List ℕ) (status : Status) → ReadsWhole limit before after input → given ≡ input
+    → IsRefusedInput inbox_scripts given status → StopsBeforeText inbox_scripts before after status
 inbox_stops before after input given NoMemory read same none = (input, read.consumed, read.fits)
 inbox_stops before after input given (Script line cause) read same none = record {
   input = input;

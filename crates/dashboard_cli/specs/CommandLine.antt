@@ -82,5 +82,5 @@ HasRows (MakeRun number) rows = HasNumber (decimal number) (codes "true") rows
 HasRows command rows = Unit {0}
 
 -- the parser found the command: its subcommand, with its matches
-abbrev pub IsFound : Command → Option (List ℕ × List Row) → Type 0
-IsFound command found = IsSomeAnd found (λ f. (f.0 ≡ name_of command) × HasRows command f.1)
+abbrev pub IsCommandFound : Command → Option (List ℕ × List Row) → Type 0
+IsCommandFound command found = IsSomeAnd found (λ f. (f.0 ≡ name_of command) × HasRows command f.1)

@@ -4,16 +4,16 @@ use Rattle.std.specs.Io.KnownBytes.{Consumes}
 use Rattle.dashboard_cli.specs.declared.reading.ReadError.{ReadError}
 use Rattle.dashboard_cli.specs.declared.reading.ReadError.TheVariants.{Failed, TooLong}
 use Rattle.loop_io.specs.Causes.{one_more}
-use Rattle.dashboard_cli.specs.Works.{Known}
+use Rattle.dashboard_cli.specs.Works.{KnownBytes}
 
 -- some bytes were read, at most one more than the limit, and one more exactly where the input is too long
-pub record ReadsPart (most : ℕ) (before after : Known) (error : ReadError) : Type 0 where
+pub record ReadsPart (most : ℕ) (before after : KnownBytes) (error : ReadError) : Type 0 where
   pub input : List ℕ
   pub consumed : Consumes before after input
   pub bounded : length input ≤ most + 1
   pub too_long : (error ≡ TooLong) ↔ (most < length input)
 
 -- where a read failed, the source counted one fault, and else none
-abbrev pub Counts : ReadError → ℕ → ℕ → Type 0
-Counts Failed before now = now ≡ one_more before
-Counts error before now = now ≡ before
+abbrev pub CountsFault : ReadError → ℕ → ℕ → Type 0
+CountsFault Failed before now = now ≡ one_more before
+CountsFault error before now = now ≡ before

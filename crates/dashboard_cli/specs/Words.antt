@@ -2,12 +2,13 @@
 use Rattle.std.specs.Prelude.{◌≡◌, ◌⊎◌, ◌^◌, ◌<◌, ℕ, List, [], ◌∷◌, codes, map, String, string_bytes, Bool, true}
 use Rattle.std.specs.declared.alloc.Global.{Global}
 use Rattle.std.specs.Fmt.{decimal}
-use Rattle.dash_script.specs.Accepting.{IsText}
-use Rattle.run_model.specs.Text.{text as report_text}
+use Rattle.dash_script.specs.Accepting.{IsScriptText}
+use Rattle.run_model.specs.Text.{report_text}
 use Rattle.run_model.specs.Run.{IsStaged}
 use Rattle.run_model.specs.ByClock.{IsStagedByClock}
-use Rattle.dashboard_cli.specs.Works.{scripts, Input, Work, Writes, only_report}
-use Rattle.dashboard_cli.specs.OtherWorks.{inbox_scripts, plans, traces, no_input, IsGenerated, Prints, Migrates, Sums, WritesHistories, Checks, Animates}
+use Rattle.dashboard_cli.specs.Works.{script_inputs, Input, Work, Writes, only_report}
+use Rattle.dashboard_cli.specs.OtherWorks.{inbox_scripts, plan_inputs, trace_inputs, no_input, IsGenerated, Prints, Migrates, Sums, WritesHistories, Checks}
+use Rattle.dashboard_cli.specs.OtherWorks.{Animates}
 use Rattle.dashboard_cli.specs.OtherWorks.{RunsInbox}
 use Rattle.dashboard_cli.specs.declared.words.Command.{Command}
 use Rattle.dashboard_cli.specs.declared.making.Returned.{Returned}
@@ -48,16 +49,16 @@ IsListed words = (command : Command) × IsAsked words command
 abbrev pub reads_of : Command → Input
 reads_of (command.Make number) = no_input
 reads_of (command.MakeRun number) = no_input
-reads_of command.Check = traces
-reads_of command.Animate = plans
+reads_of command.Check = trace_inputs
+reads_of command.Animate = plan_inputs
 reads_of command.Inbox = inbox_scripts
-reads_of _ = scripts
+reads_of _ = script_inputs
 
 -- what each command makes of it, by the numbers that the clock shows
 abbrev pub makes_by : (ℕ → Bool) → Command → List ℕ → List ℕ → Returned → Type 0
-makes_by shows command.Run = Writes IsText IsStaged report_text only_report
-makes_by shows command.RunFree = Writes IsText (IsStagedByClock shows) report_text only_report
-makes_by shows command.Text = Prints IsText (λ script. script)
+makes_by shows command.Run = Writes IsScriptText IsStaged report_text only_report
+makes_by shows command.RunFree = Writes IsScriptText (IsStagedByClock shows) report_text only_report
+makes_by shows command.Text = Prints IsScriptText (λ script. script)
 makes_by shows command.Migrate = Migrates
 makes_by shows (command.Make number) = Prints (IsGenerated number) (λ script. script)
 makes_by shows (command.MakeRun number) = Sums number

@@ -1,7 +1,7 @@
 -- What a command reads: how many bytes, which inputs it takes, and how it refuses another; and what it makes of an input and returns beside it.
 use Rattle.std.specs.Prelude.{◌≡◌, ℕ, List, Option, Some, None, ◌≤◌, length}
 use Rattle.std.specs.Io.KnownBytes.{Consumes, IsAtEnd}
-use Rattle.dash_script.specs.Accepting.{IsRefusal, IsText}
+use Rattle.dash_script.specs.Accepting.{IsScriptRefusal, IsScriptText}
 use Rattle.run_model.specs.declared.report.Report.{Report}
 use Rattle.dashboard_cli.specs.declared.making.Returned.{Returned}
 use Rattle.dashboard_cli.specs.declared.status.Cause.TheVariants as cause
@@ -9,10 +9,10 @@ use Rattle.dashboard_cli.specs.declared.status.Status.{Status}
 use Rattle.dashboard_cli.specs.declared.status.Status.TheVariants.{Script}
 
 -- the bytes that a source has left, or that a sink holds, where it tells them; and this input was read to its end, and it is no longer than the limit
-abbrev pub Known : Type 0
-Known = Option (List ℕ)
+abbrev pub KnownBytes : Type 0
+KnownBytes = Option (List ℕ)
 
-pub record ReadsWhole (most : ℕ) (before after : Known) (input : List ℕ) : Type 0 where
+pub record ReadsWhole (most : ℕ) (before after : KnownBytes) (input : List ℕ) : Type 0 where
   pub consumed : Consumes before after input
   pub ended : IsAtEnd after
   pub fits : length input ≤ most
@@ -35,11 +35,11 @@ abbrev pub limit : ℕ
 limit = 1048576
 
 abbrev pub RefusesScript : List ℕ → Status → Type 0
-RefusesScript input (Script line (cause.Text why)) = IsRefusal input line why
+RefusesScript input (Script line (cause.Text why)) = IsScriptRefusal input line why
 RefusesScript input status = ⊥
 
-abbrev pub scripts : Input
-scripts = record { most = Some limit; Takes = Says IsText; Refuses = RefusesScript }
+abbrev pub script_inputs : Input
+script_inputs = record { most = Some limit; Takes = Says IsScriptText; Refuses = RefusesScript }
 
 -- what a command does
 pub record Work : Type 1 where
@@ -59,8 +59,8 @@ pub record Writes {X R : Type 0} (Reads : List ℕ → X → Type 0) (Comes : X 
   pub given_is : given ≡ kept came
 
 -- what is returned beside a text: nothing, or a report
-abbrev pub nothing : Returned
-nothing = record { report = None; frames = None; inbox = None }
+abbrev pub returns_nothing : Returned
+returns_nothing = record { report = None; frames = None; inbox = None }
 
 abbrev pub only_report : Report → Returned
 only_report report = record { report = Some report; frames = None; inbox = None }

@@ -20,7 +20,7 @@ fn count_from(parcels: &[Parcel], thread: u32) -> u64
         .count() as u64
 }
 
-/// How many of the thread's parcels were admitted, over all blocks. One past the greatest `u64` counts as want of memory.
+/// How many of the thread's parcels were admitted, over all blocks. One past the greatest `u64` counts as out of memory.
 fn count_admitted(lists: &[Sequence<Parcel>], thread: u32) -> Result<u64, NoMemory>
     ensures { IfOk result (λ total. total ≡ admitted_from thread lists.now) }
 {
@@ -52,7 +52,7 @@ fn write_admitted(
 
 /// The text of what came of a run through an inbox, as the program prints it: the dispatches, refusals and other answers of the main
 /// looper's queue in order, the counts of the fates of its accepted posts, and for each thread how many of its parcels were
-/// admitted. It is refused for want of memory, or where a count is past the greatest `u64`. The form is this project's profile.
+/// admitted. It is refused when out of memory, or where a count is past the greatest `u64`. The form is this project's profile.
 pub fn inbox_text(alloc: Global, report: &InboxReport) -> Result<Vec<u8>, NoMemory>
     ensures { IfOk result (λ bytes. bytes.items ≡ inbox_text report.now) }
 {

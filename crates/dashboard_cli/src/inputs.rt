@@ -1,14 +1,14 @@
 // The input of a command, read whole and understood.
 ghost use Rattle.std.specs.Prelude.{◌≡◌, IfErr, IfOk, ◌<◌, ◌^◌, ◌-◌};
-ghost use Rattle.dash_script.specs.Accepting.{IsText};
+ghost use Rattle.dash_script.specs.Accepting.{IsScriptText};
 ghost use Rattle.dash_script.specs.Reading.{HasText};
 ghost use Rattle.dashboard_cli.specs.Answers.{CountsReads};
-ghost use Rattle.dashboard_cli.specs.Steps.{StopsReading, IsNone};
-ghost use Rattle.dashboard_cli.specs.Works.{scripts, ReadsWhole};
-ghost use Rattle.dashboard_cli.specs.OtherWorks.{plans, traces};
-ghost use Rattle.trace_check.specs.Text.{IsText as IsTraceText};
+ghost use Rattle.dashboard_cli.specs.Steps.{StopsReading, IsRefusedInput};
+ghost use Rattle.dashboard_cli.specs.Works.{script_inputs, ReadsWhole};
+ghost use Rattle.dashboard_cli.specs.OtherWorks.{plan_inputs, trace_inputs};
+ghost use Rattle.trace_check.specs.Text.{IsTraceText};
 ghost use Rattle.value_animator.specs.Plans.{AreValues};
-ghost use Rattle.value_animator.specs.Reading.{IsText as IsValuesText};
+ghost use Rattle.value_animator.specs.Reading.{IsPlanText};
 
 use crate::reading::{ReadError, read_whole};
 use crate::status::{Cause, Status};
@@ -50,9 +50,9 @@ fn bad_text(line: u64, cause: TextCause) -> Status
 
 /// The script of a text.
 pub(crate) fn read_script(alloc: Global, input: &[u8]) -> Result<Script, Status>
-    ensures read { IfOk result (λ script. IsText input.now script) }
+    ensures read { IfOk result (λ script. IsScriptText input.now script) }
     ensures within { IfOk result (λ script. HasText script) }
-    ensures refused { IfErr result (IsNone scripts input.now) }
+    ensures refused { IfErr result (IsRefusedInput script_inputs input.now) }
 {
     match parse(alloc, input) {
         Parsed::Ok(script) => Ok(script),
@@ -63,9 +63,9 @@ pub(crate) fn read_script(alloc: Global, input: &[u8]) -> Result<Script, Status>
 
 /// The values of a text.
 pub(crate) fn read_plan(alloc: Global, input: &[u8]) -> Result<Values, Status>
-    ensures read { IfOk result (λ values. IsValuesText input.now values) }
+    ensures read { IfOk result (λ values. IsPlanText input.now values) }
     ensures within { IfOk result (λ values. AreValues values) }
-    ensures refused { IfErr result (IsNone plans input.now) }
+    ensures refused { IfErr result (IsRefusedInput plan_inputs input.now) }
 {
     match parse_values(alloc, input) {
         ParsedValues::Ok(values) => Ok(values),
@@ -77,7 +77,7 @@ pub(crate) fn read_plan(alloc: Global, input: &[u8]) -> Result<Values, Status>
 /// The histories of a text.
 pub(crate) fn read_trace(alloc: Global, input: &[u8]) -> Result<Trace, Status>
     ensures read { IfOk result (λ trace. IsTraceText input.now trace) }
-    ensures refused { IfErr result (IsNone traces input.now) }
+    ensures refused { IfErr result (IsRefusedInput trace_inputs input.now) }
 {
     match parse_trace(alloc, input) {
         ParsedTrace::Ok(trace) => Ok(trace),

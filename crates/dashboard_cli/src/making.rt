@@ -2,9 +2,9 @@
 ghost use Rattle.std.specs.Prelude.{◌≡◌, [], None, IfErr, IfOk};
 ghost use Rattle.dash_script.specs.Reading.{HasText};
 ghost use Rattle.dashboard_cli.specs.Answers.{CountsReads};
-ghost use Rattle.dashboard_cli.specs.Steps.{HasRun, HasRunFree, Stops, IsNone, MakesProduct};
-ghost use Rattle.dashboard_cli.specs.Works.{scripts};
-ghost use Rattle.dashboard_cli.specs.OtherWorks.{inbox_scripts, plans, traces, IsInboxText};
+ghost use Rattle.dashboard_cli.specs.Steps.{IsRunOfInput, IsFreeRunOfInput, StopsBeforeText, IsRefusedInput, MakesProduct};
+ghost use Rattle.dashboard_cli.specs.Works.{script_inputs};
+ghost use Rattle.dashboard_cli.specs.OtherWorks.{inbox_scripts, plan_inputs, trace_inputs, IsInboxText};
 ghost use Rattle.dashboard_cli.specs.Words.{work, work_by};
 ghost use Rattle.inbox_queue.specs.InboxRun.{IsInboxRun};
 ghost use Rattle.run_model.specs.Run.{IsStaged};
@@ -43,11 +43,11 @@ pub(crate) struct Returned {
 
 impl Returned {
     ghost use Rattle.std.specs.Prelude.{◌≡◌};
-    ghost use Rattle.dashboard_cli.specs.Works.{nothing, only_report};
+    ghost use Rattle.dashboard_cli.specs.Works.{returns_nothing, only_report};
     ghost use Rattle.dashboard_cli.specs.OtherWorks.{only_frames, only_inbox};
 
     pub(crate) fn nothing() -> Returned
-        ensures { result ≡ nothing }
+        ensures { result ≡ returns_nothing }
     {
         Returned {
             report: None,
@@ -120,7 +120,7 @@ pub(crate) fn produce<
     gate: &G,
 ) -> Result<Product, Status>
     ensures made { IfOk result (MakesProduct (work_by (C.shows clock.now) command) (S.left source.old) (S.left source.new)) }
-    ensures stopped { IfErr result (Stops (work command).reads (S.left source.old) (S.left source.new)) }
+    ensures stopped { IfErr result (StopsBeforeText (work command).reads (S.left source.old) (S.left source.new)) }
     ensures unread { (work command).reads.most ≡ None → source.new ≡ source.old }
     ensures sound { IfOk result (λ _. S.faults source.new ≡ S.faults source.old) }
     ensures failed { IfErr result (λ status. CountsReads status (S.faults source.old) (S.faults source.new)) }
@@ -147,7 +147,7 @@ fn run_input<R: Threads + Wait + Sync, S: Source, G: Gate + Sync>(
     gate: &G,
 ) -> Result<Product, Status>
     ensures made { IfOk result (MakesProduct (work Command.Run) (S.left source.old) (S.left source.new)) }
-    ensures stopped { IfErr result (Stops scripts (S.left source.old) (S.left source.new)) }
+    ensures stopped { IfErr result (StopsBeforeText script_inputs (S.left source.old) (S.left source.new)) }
     ensures sound { IfOk result (λ _. S.faults source.new ≡ S.faults source.old) }
     ensures failed { IfErr result (λ status. CountsReads status (S.faults source.old) (S.faults source.new)) }
 {
@@ -165,7 +165,7 @@ fn run_input_free<
     G: Gate + Sync,
 >(rt: &R, alloc: Global, source: &mut S, clock: &C, gate: &G) -> Result<Product, Status>
     ensures made { IfOk result (MakesProduct (work_by (C.shows clock.now) Command.RunFree) (S.left source.old) (S.left source.new)) }
-    ensures stopped { IfErr result (Stops scripts (S.left source.old) (S.left source.new)) }
+    ensures stopped { IfErr result (StopsBeforeText script_inputs (S.left source.old) (S.left source.new)) }
     ensures sound { IfOk result (λ _. S.faults source.new ≡ S.faults source.old) }
     ensures failed { IfErr result (λ status. CountsReads status (S.faults source.old) (S.faults source.new)) }
 {
@@ -178,7 +178,7 @@ fn run_input_free<
 /// Reads a script, and prints it.
 fn print_input<S: Source>(alloc: Global, source: &mut S) -> Result<Product, Status>
     ensures made { IfOk result (MakesProduct (work Command.Text) (S.left source.old) (S.left source.new)) }
-    ensures stopped { IfErr result (Stops scripts (S.left source.old) (S.left source.new)) }
+    ensures stopped { IfErr result (StopsBeforeText script_inputs (S.left source.old) (S.left source.new)) }
     ensures sound { IfOk result (λ _. S.faults source.new ≡ S.faults source.old) }
     ensures failed { IfErr result (λ status. CountsReads status (S.faults source.old) (S.faults source.new)) }
 {
@@ -192,7 +192,7 @@ fn print_input<S: Source>(alloc: Global, source: &mut S) -> Result<Product, Stat
 /// Reads a script, and prints it as one of edition 2.
 fn migrate_input<S: Source>(alloc: Global, source: &mut S) -> Result<Product, Status>
     ensures made { IfOk result (MakesProduct (work Command.Migrate) (S.left source.old) (S.left source.new)) }
-    ensures stopped { IfErr result (Stops scripts (S.left source.old) (S.left source.new)) }
+    ensures stopped { IfErr result (StopsBeforeText script_inputs (S.left source.old) (S.left source.new)) }
     ensures sound { IfOk result (λ _. S.faults source.new ≡ S.faults source.old) }
     ensures failed { IfErr result (λ status. CountsReads status (S.faults source.old) (S.faults source.new)) }
 {
@@ -240,7 +240,7 @@ fn trace_input<R: Threads + Wait + Sync, S: Source, G: Gate + Sync>(
     gate: &G,
 ) -> Result<Product, Status>
     ensures made { IfOk result (MakesProduct (work Command.Trace) (S.left source.old) (S.left source.new)) }
-    ensures stopped { IfErr result (Stops scripts (S.left source.old) (S.left source.new)) }
+    ensures stopped { IfErr result (StopsBeforeText script_inputs (S.left source.old) (S.left source.new)) }
     ensures sound { IfOk result (λ _. S.faults source.new ≡ S.faults source.old) }
     ensures failed { IfErr result (λ status. CountsReads status (S.faults source.old) (S.faults source.new)) }
 {
@@ -253,7 +253,7 @@ fn trace_input<R: Threads + Wait + Sync, S: Source, G: Gate + Sync>(
 /// Reads histories of queues, and tells whether each is legal.
 fn check_input<S: Source>(alloc: Global, source: &mut S) -> Result<Product, Status>
     ensures made { IfOk result (MakesProduct (work Command.Check) (S.left source.old) (S.left source.new)) }
-    ensures stopped { IfErr result (Stops traces (S.left source.old) (S.left source.new)) }
+    ensures stopped { IfErr result (StopsBeforeText trace_inputs (S.left source.old) (S.left source.new)) }
     ensures sound { IfOk result (λ _. S.faults source.new ≡ S.faults source.old) }
     ensures failed { IfErr result (λ status. CountsReads status (S.faults source.old) (S.faults source.new)) }
 {
@@ -268,7 +268,7 @@ fn check_input<S: Source>(alloc: Global, source: &mut S) -> Result<Product, Stat
 /// Reads a plan of values, and runs it over frames.
 fn animate_input<S: Source>(alloc: Global, source: &mut S) -> Result<Product, Status>
     ensures made { IfOk result (MakesProduct (work Command.Animate) (S.left source.old) (S.left source.new)) }
-    ensures stopped { IfErr result (Stops plans (S.left source.old) (S.left source.new)) }
+    ensures stopped { IfErr result (StopsBeforeText plan_inputs (S.left source.old) (S.left source.new)) }
     ensures sound { IfOk result (λ _. S.faults source.new ≡ S.faults source.old) }
     ensures failed { IfErr result (λ status. CountsReads status (S.faults source.old) (S.faults source.new)) }
 {
@@ -288,7 +288,7 @@ fn inbox_input<R: Threads + Wait + Sync, S: Source, G: Gate + Sync>(
     gate: &G,
 ) -> Result<Product, Status>
     ensures made { IfOk result (MakesProduct (work Command.Inbox) (S.left source.old) (S.left source.new)) }
-    ensures stopped { IfErr result (Stops inbox_scripts (S.left source.old) (S.left source.new)) }
+    ensures stopped { IfErr result (StopsBeforeText inbox_scripts (S.left source.old) (S.left source.new)) }
     ensures sound { IfOk result (λ _. S.faults source.new ≡ S.faults source.old) }
     ensures failed { IfErr result (λ status. CountsReads status (S.faults source.old) (S.faults source.new)) }
 {
@@ -306,8 +306,8 @@ fn read_and_run<R: Threads + Wait + Sync, S: Source, G: Gate + Sync>(
     source: &mut S,
     gate: &G,
 ) -> Result<Report, Status>
-    ensures ran { IfOk result (HasRun (S.left source.old) (S.left source.new)) }
-    ensures stopped { IfErr result (Stops scripts (S.left source.old) (S.left source.new)) }
+    ensures ran { IfOk result (IsRunOfInput (S.left source.old) (S.left source.new)) }
+    ensures stopped { IfErr result (StopsBeforeText script_inputs (S.left source.old) (S.left source.new)) }
     ensures sound { IfOk result (λ _. S.faults source.new ≡ S.faults source.old) }
     ensures failed { IfErr result (λ status. CountsReads status (S.faults source.old) (S.faults source.new)) }
 {
@@ -323,8 +323,8 @@ fn read_and_run_free<
     C: Clock + Sync,
     G: Gate + Sync,
 >(rt: &R, alloc: Global, source: &mut S, clock: &C, gate: &G) -> Result<Report, Status>
-    ensures ran { IfOk result (HasRunFree (C.shows clock.now) (S.left source.old) (S.left source.new)) }
-    ensures stopped { IfErr result (Stops scripts (S.left source.old) (S.left source.new)) }
+    ensures ran { IfOk result (IsFreeRunOfInput (C.shows clock.now) (S.left source.old) (S.left source.new)) }
+    ensures stopped { IfErr result (StopsBeforeText script_inputs (S.left source.old) (S.left source.new)) }
     ensures sound { IfOk result (λ _. S.faults source.new ≡ S.faults source.old) }
     ensures failed { IfErr result (λ status. CountsReads status (S.faults source.old) (S.faults source.new)) }
 {
@@ -376,7 +376,7 @@ fn run_with_inbox<R: Threads + Wait + Sync, G: Gate + Sync>(
     gate: &G,
 ) -> Result<InboxReport, Status>
     ensures ran { IfOk result (λ report. IsInboxText input.now report.script × IsInboxRun report.script report) }
-    ensures refused { IfErr result (IsNone inbox_scripts input.now) }
+    ensures refused { IfErr result (IsRefusedInput inbox_scripts input.now) }
 {
     let script = read_script(alloc, input)?;
     match run_inbox(rt, alloc, script, gate) {

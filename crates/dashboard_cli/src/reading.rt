@@ -1,7 +1,7 @@
 // A source is read to its end, or until it has given one byte more than the limit.
 ghost use Rattle.std.specs.Prelude.{◌≡◌, ◌+◌, ◌-◌, ◌^◌, ◌<◌, IfOk, IfErr};
 ghost use Rattle.dashboard_cli.specs.Works.{ReadsWhole};
-ghost use Rattle.dashboard_cli.specs.Partial.{ReadsPart, Counts};
+ghost use Rattle.dashboard_cli.specs.Partial.{ReadsPart, CountsFault};
 
 use loop_io::Source;
 use std::alloc::Global;
@@ -36,7 +36,7 @@ pub fn read_whole<S: Source>(
     ensures whole { IfOk result (λ bytes. ReadsWhole most (S.left source.old) (S.left source.new) bytes.items) }
     ensures part { IfErr result (ReadsPart most (S.left source.old) (S.left source.new)) }
     ensures sound { IfOk result (λ _. S.faults source.new ≡ S.faults source.old) }
-    ensures failed { IfErr result (λ error. Counts error (S.faults source.old) (S.faults source.new)) }
+    ensures failed { IfErr result (λ error. CountsFault error (S.faults source.old) (S.faults source.new)) }
 {
     let mut bytes = Vec::new(alloc);
     let mut buffer = [0u8; PIECE];

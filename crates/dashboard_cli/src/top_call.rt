@@ -1,10 +1,10 @@
 // The top call: the words, then the reading, then the work, then the writing.
 ghost use Rattle.std.specs.Prelude.{◌≡◌, ◌≢◌, IsTrue, None};
 ghost use Rattle.loop_io.specs.Causes.{Rose};
-ghost use Rattle.dashboard_cli.specs.Answers.{is_refusal, writes_nothing, AllOf, Completes, CountsReads, CountsWrites, IsOf, IsRefused, IsTooLong, IsWithin};
-ghost use Rattle.dashboard_cli.specs.Answers.{WritesWholeAtOk, WritesFrontAtFault, returned};
+ghost use Rattle.dashboard_cli.specs.Answers.{is_refusal, writes_nothing, AllOf, Completes, CountsReads, CountsWrites, IsCommandWith, IsRefused, IsTooLong};
+ghost use Rattle.dashboard_cli.specs.Answers.{ReadsAtMost, WritesWholeAtOk, WritesFrontAtFault, returned};
 ghost use Rattle.dashboard_cli.specs.Words.{work, texts, IsListed};
-ghost use Rattle.dashboard_cli.specs.Works.{nothing};
+ghost use Rattle.dashboard_cli.specs.Works.{returns_nothing};
 
 use crate::making::{Returned, produce};
 use crate::status::Status;
@@ -71,7 +71,7 @@ pub fn dashboard<
     ensures listed { result.status ≢ Status.Usage → result.status ≢ Status.NoMemory → IsListed (texts words.now) }
 
     // Nothing is read unless the command is one that reads.
-    ensures unread { ¬ (IsOf (texts words.now) (λ command. (work command).reads.most ≢ None)) → source.new ≡ source.old }
+    ensures unread { ¬ (IsCommandWith (texts words.now) (λ command. (work command).reads.most ≢ None)) → source.new ≡ source.old }
 
     // The text is written whole at Ok, and a front of it at WriteFault. At every other status nothing is written.
     ensures ok { WritesWholeAtOk (C.shows clock.now) (texts words.now)
@@ -79,7 +79,7 @@ pub fn dashboard<
     ensures broken_off { WritesFrontAtFault (C.shows clock.now) (texts words.now)
         (S.left source.old) (S.left source.new) (K.holds sink.old) (K.holds sink.new) result }
     ensures nothing { IsTrue (writes_nothing result.status) → sink.new ≡ sink.old }
-    ensures none_returned { IsTrue (writes_nothing result.status) → returned result ≡ nothing }
+    ensures none_returned { IsTrue (writes_nothing result.status) → returned result ≡ returns_nothing }
 
     // A fault is answered exactly where the object has counted one in this call.
     ensures reads { CountsReads result.status (S.faults source.old) (S.faults source.new) }
@@ -87,13 +87,13 @@ pub fn dashboard<
 
     // The input is too long exactly where more bytes were read than the command's input may have.
     ensures too_long { result.status ≡ Status.TooLong
-        → IsOf (texts words.now) (λ command. IsTooLong (work command).reads.most (S.left source.old) (S.left source.new)) }
+        → IsCommandWith (texts words.now) (λ command. IsTooLong (work command).reads.most (S.left source.old) (S.left source.new)) }
     ensures within { result.status ≢ Status.TooLong
-        → AllOf (texts words.now) (λ command. IsWithin (work command).reads.most (S.left source.old) (S.left source.new)) }
+        → AllOf (texts words.now) (λ command. ReadsAtMost (work command).reads.most (S.left source.old) (S.left source.new)) }
 
     // A refused input was read whole, and it is none that the command takes.
     ensures refused { IsTrue (is_refusal result.status)
-        → IsOf (texts words.now) (λ command. IsRefused (work command).reads (S.left source.old) (S.left source.new) result.status) }
+        → IsCommandWith (texts words.now) (λ command. IsRefused (work command).reads (S.left source.old) (S.left source.new) result.status) }
 
     // It doesn't give up by itself.
     ensures complete { ¬ (Rose (K.faults sink.old) (K.faults sink.new))

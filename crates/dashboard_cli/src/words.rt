@@ -2,7 +2,7 @@
 ghost use Rattle.std.specs.Prelude.{◌≡◌, ◌≢◌, ◌↔◌, IfOk, IfNone, IfSome, IsTrue, map, codes, Some, None, false, true};
 ghost use Rattle.clap.specs.Words.{app_of, found_of, kind_of, rows_of, subcommand_rows_of};
 ghost use Rattle.clap.specs.declared.builder.command.Command.TheViews.{out-Command};
-ghost use Rattle.dashboard_cli.specs.CommandLine.{dashboard_app, run_app, make_app, text_app, name_of, HasRows, IsFound};
+ghost use Rattle.dashboard_cli.specs.CommandLine.{dashboard_app, run_app, make_app, text_app, name_of, HasRows, IsCommandFound};
 ghost use Rattle.dashboard_cli.specs.Words.{IsInRange, IsAsked, IsListed, IsSpelled, texts};
 
 use clap::error::ErrorKind;
@@ -125,7 +125,7 @@ fn make_line<'a>(alloc: Global) -> Result<clap::Command<'a>, AllocError>
 
 /// The command that the parser found.
 fn command_found(matches: &ArgMatches<'_>) -> Option<Command>
-    ensures { (command : Command) → IsInRange command → IsFound command (subcommand_rows_of matches.now) → result ≡ Some command }
+    ensures { (command : Command) → IsInRange command → IsCommandFound command (subcommand_rows_of matches.now) → result ≡ Some command }
 {
     let (name, inner) = matches.subcommand()?;
     match name {

@@ -14,7 +14,7 @@ use Rattle.loop_model.specs.Items.{is_just, is_of_kind, has_object}
 use Rattle.fate_ledger.specs.declared.cause.Cause.{Cause}
 use Rattle.fate_ledger.specs.declared.cause.Cause.TheVariants.{Removal, Dispatch, Everything, SafeQuit, Nothing}
 use Rattle.fate_ledger.specs.declared.keys.RemovalKey.{RemovalKey}
-use Rattle.fate_ledger.specs.Keys.{key_cmp, key_of, is_same, is_same_name}
+use Rattle.fate_ledger.specs.Keys.{key_cmp, removal_key, is_same, is_same_name}
 use Rattle.fate_ledger.specs.Behind.{names, removes_with, removes, is_dispatch, is_everything, is_quit_before, ends_post, first_at}
 
 first_past : (p : Cause → Bool) (k : ℕ) (cs : List Cause) → k ≤ first_at p k cs
@@ -85,7 +85,7 @@ with_what p o none (Removal f) = go f.kind
     none_is None h = refl
     none_is (Some y) h = absurd cc
 
-    go : (k : Kind) → (p.handler == f.handler && is_of_kind k p && is_same o f.obj) ≡ (is_same_name (key_with p None None o) (key_of (record { handler = f.handler; kind = k; obj = f.obj })) || is_same_name (key_with p (Some p.what) None o) (key_of (record { handler = f.handler; kind = k; obj = f.obj })))
+    go : (k : Kind) → (p.handler == f.handler && is_of_kind k p && is_same o f.obj) ≡ (is_same_name (key_with p None None o) (removal_key (record { handler = f.handler; kind = k; obj = f.obj })) || is_same_name (key_with p (Some p.what) None o) (removal_key (record { handler = f.handler; kind = k; obj = f.obj })))
     go (What w) = grind arith
     go (Callback c) = rw (none_is p.callback none) (grind arith)
     go AnyKind = grind arith
@@ -104,7 +104,7 @@ also_called p o c = plainly p o c || names (key_with p None p.callback o) c
 with_callback : (p : Post) (o : Option ℕ) → is_some p.callback ≡ true → (c : Cause) → removes_with o p c ≡ also_called p o c
 with_callback p o some (Removal f) = go f.kind p.callback (some_is p.callback some)
   where
-    go : (k : Kind) (b : Option ℕ) → b ≡ Some (unwrap_or b 0) → (p.handler == f.handler && is_of_kind k (record { handler = p.handler; what = p.what; arg = p.arg; obj = p.obj; callback = b; when = p.when; asynchronous = p.asynchronous; slot = p.slot }) && is_same o f.obj) ≡ ((is_same_name (key_with p None None o) (key_of (record { handler = f.handler; kind = k; obj = f.obj })) || is_same_name (key_with p (Some p.what) None o) (key_of (record { handler = f.handler; kind = k; obj = f.obj }))) || is_same_name (key_with p None b o) (key_of (record { handler = f.handler; kind = k; obj = f.obj })))
+    go : (k : Kind) (b : Option ℕ) → b ≡ Some (unwrap_or b 0) → (p.handler == f.handler && is_of_kind k (record { handler = p.handler; what = p.what; arg = p.arg; obj = p.obj; callback = b; when = p.when; asynchronous = p.asynchronous; slot = p.slot }) && is_same o f.obj) ≡ ((is_same_name (key_with p None None o) (removal_key (record { handler = f.handler; kind = k; obj = f.obj })) || is_same_name (key_with p (Some p.what) None o) (removal_key (record { handler = f.handler; kind = k; obj = f.obj }))) || is_same_name (key_with p None b o) (removal_key (record { handler = f.handler; kind = k; obj = f.obj })))
     go k None h = absurd cc
     go (What w) (Some y) h = grind arith
     go (Callback c) (Some y) h = grind arith

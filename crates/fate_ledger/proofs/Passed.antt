@@ -14,7 +14,7 @@ use Rattle.loop_model.specs.declared.reply.Reply.TheVariants.{Accepted, Refused,
 use Rattle.loop_model.specs.declared.entry.Entry.{Entry}
 use Rattle.loop_model.specs.declared.fate.Fate.{Fate}
 use Rattle.loop_model.specs.declared.item.Item.TheVariants.{Post as Message}
-use Rattle.loop_model.specs.Entries.{is_accepted, is_disposed, is_unbarriered, is_quit_done, posts_in, barriers_in, dispatches, made_by, ends_by, ends}
+use Rattle.loop_model.specs.Entries.{is_accepted, is_disposed, is_unbarriered, is_quit_done, posts_in, barriers_in, dispatches_item, made_by, ends_by, ends}
 use Rattle.loop_model.specs.Live.{placed, made_items}
 use Rattle.loop_model.specs.Fates.{fate_of, fate_in, fates}
 use Rattle.loop_model.specs.Posts.{accepted_by}
@@ -26,7 +26,7 @@ use Rattle.fate_ledger.specs.Ledgers.{posts_of, causes_of, posted_fate, fates_fr
 use Rattle.fate_ledger.proofs.Firsts.{first_found}
 
 -- an entry ends a post just where what it ends takes the post
-ended_by_look : (n : ℕ) (p : PostData) (r : Reply) → (is_disposed r || dispatches r (Message n p)) ≡ ends_post n p (cause_of_look r)
+ended_by_look : (n : ℕ) (p : PostData) (r : Reply) → (is_disposed r || dispatches_item r (Message n p)) ≡ ends_post n p (cause_of_look r)
 ended_by_look n p (Accepted m) = refl
 ended_by_look n p (Refused m) = refl
 ended_by_look n p (Token m) = refl

@@ -8,13 +8,13 @@ use Rattle.fate_ledger.specs.declared.cause.Cause.{Cause}
 use Rattle.fate_ledger.specs.declared.cause.Cause.TheVariants.{Removal, Dispatch, Everything, SafeQuit, Nothing}
 use Rattle.fate_ledger.specs.declared.keys.RemovalKey.{RemovalKey}
 use Rattle.fate_ledger.specs.declared.behind.Behind.{Behind}
-use Rattle.fate_ledger.specs.Keys.{key_cmp, key_of, is_same, is_same_name}
+use Rattle.fate_ledger.specs.Keys.{key_cmp, removal_key, is_same, is_same_name}
 use Rattle.fate_ledger.specs.Quits.{first_quit}
 use Rattle.fate_ledger.specs.Dispatches.{dispatch_at}
 
 -- a removal that names just this
 abbrev pub names : RemovalKey → Cause → Bool
-names x (Removal f) = is_same_name x (key_of f)
+names x (Removal f) = is_same_name x (removal_key f)
 names x _ = false
 
 -- a removal that takes the post and names just this object, or just no object

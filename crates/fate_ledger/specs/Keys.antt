@@ -23,8 +23,8 @@ callback_in (Callback c) = Some c
 callback_in AnyKind = None
 
 -- what a filter names
-abbrev pub key_of : Filter → RemovalKey
-key_of f = record { handler = f.handler; what = what_in f.kind; callback = callback_in f.kind; obj = f.obj }
+abbrev pub removal_key : Filter → RemovalKey
+removal_key f = record { handler = f.handler; what = what_in f.kind; callback = callback_in f.kind; obj = f.obj }
 
 -- the same number, or none on both sides
 abbrev pub is_same : Option ℕ → Option ℕ → Bool

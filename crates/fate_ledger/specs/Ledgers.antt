@@ -10,7 +10,7 @@ use Rattle.loop_model.specs.Posts.{accepted_by}
 use Rattle.fate_ledger.specs.declared.ledger.Ledger.{Ledger}
 use Rattle.fate_ledger.specs.declared.cause.Cause.{Cause}
 use Rattle.fate_ledger.specs.Causes.{cause_of}
-use Rattle.fate_ledger.specs.Quits.{IsRising}
+use Rattle.fate_ledger.specs.Quits.{AreQuitsRising}
 use Rattle.fate_ledger.specs.Behind.{Tells}
 
 -- how many messages the entries post
@@ -32,8 +32,8 @@ fates_from n [] = []
 fates_from n (e ∷ es) = posted_fate n (accepted_by e.call e.reply) es ++ fates_from (n + posts_in e.call e.reply) es
 
 -- the ledger stands at place k of the history
-pub record Follows (es : List Entry) (k : ℕ) (l : Ledger) : Type 0 where
+pub record StandsAtPlace (es : List Entry) (k : ℕ) (l : Ledger) : Type 0 where
   pub behind : Tells l.behind k (causes_of (drop k es))
-  pub rising : IsRising l.behind.safe_quits.list.items
+  pub rising : AreQuitsRising l.behind.safe_quits.list.items
   pub number : l.number + posts_of (drop k es) ≡ posts_of es
   pub fates : reverse l.fates.items ≡ fates_from l.number (drop k es)

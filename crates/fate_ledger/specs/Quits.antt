@@ -4,8 +4,8 @@ use Rattle.std.specs.List.Sorted.{IsNonDecreasingBy, IsPartitionPoint}
 use Rattle.fate_ledger.specs.declared.quits.SafeQuit.{SafeQuit}
 
 -- no quit has a lesser moment than the one before it
-abbrev pub IsRising : List SafeQuit → Type 0
-IsRising quits = IsNonDecreasingBy (λ (q : SafeQuit). q.now) quits
+abbrev pub AreQuitsRising : List SafeQuit → Type 0
+AreQuitsRising quits = IsNonDecreasingBy (λ (q : SafeQuit). q.now) quits
 
 -- the last of these quits that was made before the moment, by its place, or the end where none was
 abbrev pub first_quit : ℕ → ℕ → List SafeQuit → ℕ

@@ -2,7 +2,7 @@
 
 ghost use Rattle.std.specs.Prelude.{◌≡◌, ◌+◌, ℕ, List, [], ◌∷◌, IfOk, OnOk, min};
 ghost use Rattle.fate_ledger.specs.Behind.{Tells, first_at, is_dispatch, ends_post, names, removes, removes_with};
-ghost use Rattle.fate_ledger.specs.Quits.{IsRising};
+ghost use Rattle.fate_ledger.specs.Quits.{AreQuitsRising};
 ghost use Rattle.fate_ledger.specs.declared.cause.Cause.{Cause};
 
 use crate::cause::Cause;
@@ -33,7 +33,7 @@ impl Behind {
     /// Nothing stands behind the end, in a history that posts so many messages.
     pub(crate) fn new(alloc: Global, posts: u64, end: usize) -> Result<Behind, NoMemory>
         ensures tells { IfOk result (λ b. Tells b end []) }
-        ensures rising { IfOk result (λ b. IsRising b.safe_quits.list.items) }
+        ensures rising { IfOk result (λ b. AreQuitsRising b.safe_quits.list.items) }
     {
         let dispatches = Dispatches::new(alloc, posts, end)?;
         Ok(Behind {
@@ -47,9 +47,9 @@ impl Behind {
 
     /// Goes on to the entry in front, which stands at this place.
     pub(crate) fn add(&mut self, place: usize, cause: Cause) -> Result<(), NoMemory>
-        requires { IsRising self.old.safe_quits.list.items }
+        requires { AreQuitsRising self.old.safe_quits.list.items }
         ensures tells { (causes : List Cause) → Tells self.old (place + 1) causes → OnOk result (Tells self.new place (cause ∷ causes)) }
-        ensures rising { OnOk result (IsRising self.new.safe_quits.list.items) }
+        ensures rising { OnOk result (AreQuitsRising self.new.safe_quits.list.items) }
     {
         match cause {
             Cause::Removal(filter) => {
@@ -120,7 +120,7 @@ impl Behind {
 
     /// The place of the first entry that ends the post of this number, or the end where none does.
     pub(crate) fn first_end(&self, number: u64, post: &Post) -> usize
-        requires { IsRising self.now.safe_quits.list.items }
+        requires { AreQuitsRising self.now.safe_quits.list.items }
         ensures { (place : ℕ) (causes : List Cause) → Tells self.now place causes → result ≡ first_at (ends_post number post.now) place causes }
     {
         let one = earlier(self.removal(post), self.dispatch(number));

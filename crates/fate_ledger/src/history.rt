@@ -10,7 +10,7 @@ use loop_model::{Entry, Fate, NoMemory, Segment};
 use std::alloc::Global;
 
 /// What became of each accepted post of a history, which is all entries of these parts: what the first entry that ended it says,
-/// or that it is still queued. It is refused only for want of memory. A rule of this project's profile.
+/// or that it is still queued. It is refused only when out of memory. A rule of this project's profile.
 pub fn fates(alloc: Global, segments: &[Segment]) -> Result<Fates, NoMemory>
     ensures list { IfOk result (λ f. f.list ≡ fates (entries_of segments.now)) }
     ensures dispatched { IfOk result (λ f. f.dispatched ≡ count_by is_dispatched (fates (entries_of segments.now))) }

@@ -1,7 +1,7 @@
 // What removals name, as keys that have an order.
 
 ghost use Rattle.std.specs.Prelude.{◌≡◌};
-ghost use Rattle.fate_ledger.specs.Keys.{key_of};
+ghost use Rattle.fate_ledger.specs.Keys.{removal_key};
 
 use loop_model::{Filter, Kind};
 
@@ -20,7 +20,7 @@ pub struct RemovalKey {
 
 /// What the filter names.
 pub(crate) fn key_of(filter: &Filter) -> RemovalKey
-    ensures { result ≡ key_of filter.now }
+    ensures { result ≡ removal_key filter.now }
 {
     let (what, callback) = match filter.kind {
         Kind::What(what) => (Some(what), None),

@@ -3,7 +3,7 @@
 ghost use Rattle.std.specs.Prelude.{◌≡◌, ◌+◌, ◌<◌, IfOk, OnOk, drop, reverse, length, slice_get};
 ghost use Rattle.loop_model.specs.Fates.{fate_of};
 ghost use Rattle.loop_model.specs.Posts.{accepted_by};
-ghost use Rattle.fate_ledger.specs.Ledgers.{Follows, fates_from, posts_of};
+ghost use Rattle.fate_ledger.specs.Ledgers.{StandsAtPlace, fates_from, posts_of};
 
 use crate::behind::Behind;
 use crate::cause::cause_of;
@@ -25,7 +25,7 @@ pub struct Ledger {
 impl Ledger {
     /// The ledger at the end of a history.
     pub fn new(alloc: Global, entries: &[Entry]) -> Result<Ledger, NoMemory>
-        ensures { IfOk result (λ l. Follows entries.now (length entries.now) l) }
+        ensures { IfOk result (λ l. StandsAtPlace entries.now (length entries.now) l) }
     {
         let number = posts(entries);
         Ok(Ledger {
@@ -35,11 +35,11 @@ impl Ledger {
         })
     }
 
-    /// Goes on to the entry at this place. After want of memory the ledger is not to be used.
+    /// Goes on to the entry at this place. After running out of memory the ledger is not to be used.
     pub fn next(&mut self, entries: &[Entry], place: usize) -> Result<(), NoMemory>
         requires within { place < length entries.now }
-        requires follows { Follows entries.now (place + 1) self.old }
-        ensures { OnOk result (Follows entries.now place self.new) }
+        requires follows { StandsAtPlace entries.now (place + 1) self.old }
+        ensures { OnOk result (StandsAtPlace entries.now place self.new) }
     {
         self.post(entries, place)?;
         self.behind.add(place, cause_of(&entries[place]))
@@ -48,7 +48,7 @@ impl Ledger {
     /// Adds the fate of the message that the entry at this place posts, where it posts one.
     fn post(&mut self, entries: &[Entry], place: usize) -> Result<(), NoMemory>
         requires within { place < length entries.now }
-        requires follows { Follows entries.now (place + 1) self.old }
+        requires follows { StandsAtPlace entries.now (place + 1) self.old }
         ensures behind { self.new.behind ≡ self.old.behind }
         ensures number { OnOk result (self.new.number + posts_of (drop place entries.now) ≡ posts_of entries.now) }
         ensures fates { OnOk result (reverse self.new.fates.items ≡ fates_from self.new.number (drop place entries.now)) }

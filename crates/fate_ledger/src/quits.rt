@@ -1,7 +1,7 @@
 // The safe quits that stand behind a place of a history.
 
 ghost use Rattle.std.specs.Prelude.{◌≡◌, [], OnOk};
-ghost use Rattle.fate_ledger.specs.Quits.{IsRising, IsBoundAt, first_quit, IsAddedBefore};
+ghost use Rattle.fate_ledger.specs.Quits.{AreQuitsRising, IsBoundAt, first_quit, IsAddedBefore};
 
 use loop_model::NoMemory;
 use std::alloc::Global;
@@ -34,7 +34,7 @@ impl SafeQuits {
 
     /// The place of the first quit that was made before the moment, or `end` where none was.
     pub(crate) fn first_before(&self, moment: u64, end: usize) -> usize
-        requires { IsRising self.now.list.items }
+        requires { AreQuitsRising self.now.list.items }
         ensures { result ≡ first_quit moment end self.now.list.items }
     {
         let count = count_before(&self.list, moment);
@@ -46,8 +46,8 @@ impl SafeQuits {
 
     /// Adds a quit that stands in front of all the others; those that end no more than it does are let go.
     pub(crate) fn add(&mut self, now: u64, place: usize) -> Result<(), NoMemory>
-        requires { IsRising self.old.list.items }
-        ensures rising { OnOk result (IsRising self.new.list.items) }
+        requires { AreQuitsRising self.old.list.items }
+        ensures rising { OnOk result (AreQuitsRising self.new.list.items) }
         ensures first { OnOk result (IsAddedBefore now place self.old.list.items self.new.list.items) }
     {
         let kept = count_before(&self.list, now);
@@ -59,7 +59,7 @@ impl SafeQuits {
 
 /// How many of the quits were made before the moment.
 fn count_before(quits: &[SafeQuit], moment: u64) -> usize
-    requires { IsRising quits.now }
+    requires { AreQuitsRising quits.now }
     ensures { IsBoundAt moment quits.now result }
 {
     quits.partition_point(|quit| quit.now < moment)

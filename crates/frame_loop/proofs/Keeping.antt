@@ -6,7 +6,7 @@ use Rattle.loop_model.specs.declared.journal.Journal.{Journal}
 use Rattle.loop_model.specs.declared.memory.NoMemory.{NoMemory}
 use Rattle.message_pool.specs.Passes.{Tally}
 use Rattle.shared_queue.specs.Known.{Shared, IsOf}
-use Rattle.choreographer.specs.Known.{Shared as FrameShared, Known as FrameKnown, IsOf as IsFrameOf}
+use Rattle.choreographer.specs.Known.{SharedFrames, Pass, IsPassOf}
 use Rattle.choreographer.specs.declared.frame.Framed.{Framed}
 use Rattle.choreographer.specs.declared.frame.Framed.TheVariants as framed
 use Rattle.choreographer.specs.Done.{UnlessNoMemory}
@@ -18,14 +18,14 @@ use Rattle.looper_run.specs.declared.dispatcher.Did.{Did}
 use Rattle.looper_run.specs.declared.dispatcher.Did.TheVariants.{Yes, No, NoMemory as Lost}
 use Rattle.looper_run.specs.Tests.{IsLent, IsSameLooper, Unless}
 use Rattle.looper_run.proofs.Working.{lent_self}
-use Rattle.plain_loop.specs.Lines.{Keeps}
+use Rattle.plain_loop.specs.Lines.{KeepsLine}
 use Rattle.frame_loop.specs.declared.screen.Screen.{Screen}
 use Rattle.frame_loop.specs.Screens.{KeepsScreen}
 use Rattle.frame_loop.specs.Paintings.{PaintingOrigin, ServesPainting, lending}
 use Rattle.frame_loop.specs.Dispatching.{ServesFrames, KeepsOwn, FoundMemory}
 
 -- a way keeps itself
-pub keeps_self : {E : Type 0} (v : Way E) → IsReady v → Keeps v v
+pub keeps_self : {E : Type 0} (v : Way E) → IsReady v → KeepsLine v v
 keeps_self v ready = record {
   ready = ready;
   same = record { queue = refl; pool = refl; poster = refl; pass = refl };
@@ -33,7 +33,7 @@ keeps_self v ready = record {
 }
 
 -- two calls
-pub keeps_then : {E : Type 0} (u v w : Way E) → Keeps u v → Keeps v w → Keeps u w
+pub keeps_then : {E : Type 0} (u v w : Way E) → KeepsLine u v → KeepsLine v w → KeepsLine u w
 keeps_then u v w a b = record {
   ready = b.ready;
   same = record { queue = b.same.queue ∙ a.same.queue; pool = b.same.pool ∙ a.same.pool; poster = b.same.poster ∙ a.same.poster; pass = b.same.pass ∙ a.same.pass };
@@ -48,7 +48,7 @@ own_self o = record { same = record { poster = refl; pass = refl; journal = refl
 pub place_after : (a b : Holding) → IsSameLooper a b → workplace b ≡ workplace a
 place_after a b same = λ i. record { table = same.table i; constants = same.constants i; pool = same.home i }
 
-module _ (queue : Shared TableId) (pool : TableId) (c : FrameShared) (frames asks : FrameKnown) where
+module _ (queue : Shared TableId) (pool : TableId) (c : SharedFrames) (frames asks : Pass) where
   -- a dispatcher serves the same place
   pub serves_place : (w v : Workplace) → v ≡ w → ServesFrames queue pool c frames asks w → ServesFrames queue pool c frames asks v
   serves_place w v same serves = subst (λ (x : Workplace). ServesFrames queue pool c frames asks x) (sym same) serves
@@ -58,7 +58,7 @@ module _ (queue : Shared TableId) (pool : TableId) (c : FrameShared) (frames ask
   serves_after a b same = serves_place (workplace a) (workplace b) (place_after a b same)
 
   -- a dispatcher serves what it served once a frame ran by its passes
-  pub serves_framed : (frames' asks' : FrameKnown) (w : Workplace) → frames'.table ≡ frames.table → frames'.number ≡ frames.number → frames'.view.constants ≡ frames.view.constants → IsFrameOf asks' c
+  pub serves_framed : (frames' asks' : Pass) (w : Workplace) → frames'.table ≡ frames.table → frames'.number ≡ frames.number → frames'.view.constants ≡ frames.view.constants → IsPassOf asks' c
       → ServesFrames queue pool c frames asks w → ServesFrames queue pool c frames' asks' w
   serves_framed frames' asks' w table number constants asking serves = record {
     place = serves.place;
@@ -86,7 +86,7 @@ module _ (queue : Shared TableId) (pool : TableId) (c : FrameShared) (frames ask
   }
 
 -- as it closes, what was lent has gone on
-pub closes : (o' : PaintingOrigin) (poster poster' : Sender) (pass pass' : Tally) (asks : FrameKnown) (c : FrameShared) (j : Journal) → o'.poster ≡ poster → o'.pass ≡ pass
+pub closes : (o' : PaintingOrigin) (poster poster' : Sender) (pass pass' : Tally) (asks : Pass) (c : SharedFrames) (j : Journal) → o'.poster ≡ poster → o'.pass ≡ pass
     → ServesPainting o' poster' pass' asks c → IsLent (lending poster pass j) (lending poster' pass' j) × (poster'.view.rung ≡ poster.view.rung)
 closes o' poster poster' pass pass' asks c j began pass_began s = (
   subst (λ (a : Tally). IsLent (lending poster a j) (lending poster' pass' j)) pass_began (subst (λ (p : Sender). IsLent (lending p o'.pass j) (lending poster' pass' j)) began (s.lent j)),
@@ -95,14 +95,14 @@ closes o' poster poster' pass pass' asks c j began pass_began s = (
 
 module _ {R C E : Type 0} where
   -- a callback that kept its screen leaves a client that serves what it served
-  pub paints : (o : PaintingOrigin) (s t : Screen R C E) (q : FrameShared) → KeepsScreen s t → o.queue ≡ s.queue.now → o.pool ≡ s.pool.now → o.choreographer ≡ s.choreographer.now
+  pub paints : (o : PaintingOrigin) (s t : Screen R C E) (q : SharedFrames) → KeepsScreen s t → o.queue ≡ s.queue.now → o.pool ≡ s.pool.now → o.choreographer ≡ s.choreographer.now
       → ServesPainting o s.poster.now s.pass.now s.asks.now q → ServesPainting o t.poster.now t.pass.now t.asks.now q
   paints o s t q k oq op oc h = record {
     of_queue = subst (λ (x : Shared TableId). IsOf t.poster.now x) (k.line.same.queue ∙ sym oq) k.line.ready.poster;
     of_pool = k.line.ready.pass ∙ (k.line.same.pool ∙ sym op);
     home = h.home;
     of_frames = h.of_frames;
-    asking = subst (λ (x : FrameShared). IsFrameOf t.asks.now x) (k.same.choreographer ∙ (sym oc ∙ sym h.of_frames)) k.screen.asks;
+    asking = subst (λ (x : SharedFrames). IsPassOf t.asks.now x) (k.same.choreographer ∙ (sym oc ∙ sym h.of_frames)) k.screen.asks;
     phases = h.phases;
     lent = λ j. (k.line.lent (lending o.poster o.pass j) (h.lent j, h.rung)).0;
     rung = (k.line.lent (lending o.poster o.pass (record { looper = 0; acts = [] })) (h.lent (record { looper = 0; acts = [] }), h.rung)).1;
@@ -117,7 +117,7 @@ found framed.Unscheduled (Ok done) P is h = h
 found (framed.Backwards last) (Ok done) P is h = h
 found framed.NoMemory (Ok done) P is h = absurd is
 
--- what holds in any case holds unless memory was wanting
+-- what holds in any case holds unless memory ran out
 pub unless_holds : (d : Did) (P : Type 0) → P → Unless d P
 unless_holds Yes P h = h
 unless_holds No P h = h

@@ -2,21 +2,21 @@
 use Rattle.std.specs.Prelude.{◌≡◌, ◌+◌, true, None}
 use Rattle.atomic_table.specs.Seated.{TableId}
 use Rattle.shared_queue.specs.Known.{Shared}
-use Rattle.choreographer.specs.Known.{Shared as FrameShared, Known as FrameKnown, IsOf}
+use Rattle.choreographer.specs.Known.{SharedFrames, Pass, IsPassOf}
 use Rattle.choreographer.specs.declared.frame.Framed.{Framed}
 use Rattle.choreographer.specs.declared.frame.Framed.TheVariants as framed
 use Rattle.looper_run.specs.declared.own.Own.{Own}
 use Rattle.looper_run.specs.Holding.{Workplace, held, IsSameOwn}
 use Rattle.looper_run.specs.Tests.{IsLent}
-use Rattle.plain_loop.specs.Handling.{IsPlaceOf}
+use Rattle.plain_loop.specs.Handling.{IsWorkplaceOf}
 use Rattle.frame_loop.specs.declared.dispatching.FrameHandling.{FrameHandling}
 
 -- the looper is of this queue and this pool, and both passes are of the choreographer, which has five phases, lets its record go by the first of the two, its
 -- last pass, and names no pass for the pulses
-pub record ServesFrames (queue : Shared TableId) (pool : TableId) (c : FrameShared) (frames asks : FrameKnown) (w : Workplace) : Type 0 where
-  pub place : IsPlaceOf queue pool w
-  pub framing : IsOf frames c
-  pub asking : IsOf asks c
+pub record ServesFrames (queue : Shared TableId) (pool : TableId) (c : SharedFrames) (frames asks : Pass) (w : Workplace) : Type 0 where
+  pub place : IsWorkplaceOf queue pool w
+  pub framing : IsPassOf frames c
+  pub asking : IsPassOf asks c
   pub last : frames.number + 1 ≡ c.constants.passes
   pub phases : c.constants.phases ≡ 5
   pub seals : c.constants.seals ≡ true

@@ -4,7 +4,7 @@ use Rattle.atomic_table.specs.Seated.{TableId}
 use Rattle.loop_model.specs.declared.journal.Journal.{Journal}
 use Rattle.message_pool.specs.Passes.{Tally}
 use Rattle.shared_queue.specs.Known.{Shared, IsOf}
-use Rattle.choreographer.specs.Known.{Shared as FrameShared, Known as FrameKnown, IsOf as IsFrameOf}
+use Rattle.choreographer.specs.Known.{SharedFrames, Pass, IsPassOf}
 use Rattle.looper_run.specs.Holding.{Sender, Holding}
 use Rattle.looper_run.specs.Tests.{IsLent}
 use Rattle.frame_loop.specs.declared.painting.Painting.{Painting}
@@ -17,7 +17,7 @@ pub record PaintingOrigin : Type 0 where
   pub pass_name : ℕ
   pub asks_name : ℕ
   pub handlers_name : ℕ
-  pub choreographer : FrameShared
+  pub choreographer : SharedFrames
   pub poster : Sender
   pub pass : Tally
 
@@ -41,12 +41,12 @@ lending poster pass j = record { poster = poster; pass = pass; journal = j }
 
 -- the poster is one of the queue, the pass is one of the pool, the queue's messages are the pool's, the other pass is one of the choreographer, which has five
 -- phases; and poster and pass have gone on since the frame began as the calls of a dispatcher may, and rang no bell
-pub record ServesPainting (o : PaintingOrigin) (poster : Sender) (pass : Tally) (asks : FrameKnown) (c : FrameShared) : Type 0 where
+pub record ServesPainting (o : PaintingOrigin) (poster : Sender) (pass : Tally) (asks : Pass) (c : SharedFrames) : Type 0 where
   pub of_queue : IsOf poster o.queue
   pub of_pool : pass.home ≡ o.pool
   pub home : o.queue.constants.home ≡ o.pool
   pub of_frames : c ≡ o.choreographer
-  pub asking : IsFrameOf asks c
+  pub asking : IsPassOf asks c
   pub phases : c.constants.phases ≡ 5
   pub lent : (j : Journal) → IsLent (lending o.poster o.pass j) (lending poster pass j)
   pub rung : poster.view.rung ≡ o.poster.view.rung

@@ -1,6 +1,6 @@
 //! Loopers with frames, alone and beside other work.
 ghost use Rattle.std.specs.Prelude.{◌≡◌, ◌<◌, false, length, IfOk};
-ghost use Rattle.plain_loop.specs.Senders.{IsSender, AreSenders, IsOneFewer, IsLooper};
+ghost use Rattle.plain_loop.specs.Senders.{IsSender, AreSenders, IsOneFewer, IsQueueLooper};
 
 use crate::handlers::FrameHandle;
 use crate::looping::run_frame_looper;
@@ -99,7 +99,7 @@ fn side_by_side<
     handlers: H,
     work: W,
 ) -> Result<(T, H), NoMemory>
-    requires looper { IsLooper mailbox.now.queue.now mailbox.now.pool.now looper }
+    requires looper { IsQueueLooper mailbox.now.queue.now mailbox.now.pool.now looper }
     requires free { mailbox.now.queue.now.constants.setting.lockstep ≡ false }
     requires period { 0 < period }
     requires senders { AreSenders mailbox.now.queue.now mailbox.now.pool.now senders × (0 < length senders.posters.items) }
@@ -180,7 +180,7 @@ fn all_beside<
     handlers: H,
     work: W,
 ) -> Result<(T, H), NoMemory>
-    requires looper { IsLooper mailbox.now.queue.now mailbox.now.pool.now looper }
+    requires looper { IsQueueLooper mailbox.now.queue.now mailbox.now.pool.now looper }
     requires free { mailbox.now.queue.now.constants.setting.lockstep ≡ false }
     requires period { 0 < period }
     requires work { W.pre work mailbox senders }

@@ -1,12 +1,12 @@
 //! The dispatcher of a looper with frames.
 ghost use Rattle.std.specs.Prelude.{◌≡◌, ◌+◌, [], IsTrue, true, None, OnOk};
 ghost use Rattle.message_slot.specs.Letter.{number_in, post_of};
-ghost use Rattle.choreographer.specs.Known.{IsOf};
+ghost use Rattle.choreographer.specs.Known.{IsPassOf};
 ghost use Rattle.handler_post.specs.Ways.{IsReady};
 ghost use Rattle.looper_run.specs.Holding.{workplace, held, IsSameOwn};
 ghost use Rattle.looper_run.specs.Tests.{IsLent, Rings};
 ghost use Rattle.plain_loop.specs.Handling.{HasJustTaken};
-ghost use Rattle.plain_loop.specs.Lines.{Keeps, way_of};
+ghost use Rattle.plain_loop.specs.Lines.{KeepsLine, way_of};
 ghost use Rattle.frame_loop.specs.Dispatching.{FoundMemory, Serving, KeepsServing, KeepsOwn};
 ghost use Rattle.frame_loop.specs.FrameLooping.{AsksPulse, DropsFrames};
 
@@ -70,7 +70,7 @@ fn flush<R: Wait, C: Clock, E: Recorder>(
     outbox: &mut FrameOutbox<C>,
 ) -> Handled
     requires { IsReady (way_of line.old) }
-    ensures keeps { Keeps (way_of line.old) (way_of line.new) }
+    ensures keeps { KeepsLine (way_of line.old) (way_of line.new) }
     ensures sent { OnOk result (outbox.new.sent.items ≡ []) }
 {
     for sending in &outbox.sent {
@@ -87,7 +87,7 @@ fn flush<R: Wait, C: Clock, E: Recorder>(
 impl<'a, R: Wait, C: Clock, E: Recorder, H: FrameHandle<R, C, E>> FrameHandling<'a, R, C, E, H> {
     /// The pulse that is asked for, which the looper waits for from now on, in milliseconds rounded up.
     pub(crate) fn next_pulse(&mut self) -> Option<u64>
-        requires { IsOf self.old.frames self.old.choreographer.now }
+        requires { IsPassOf self.old.frames self.old.choreographer.now }
         ensures asks { AsksPulse self.old.frames self.new.frames result }
         ensures serves { KeepsServing self.old self.new }
         ensures handlers { self.new.handlers ≡ self.old.handlers }
@@ -100,7 +100,7 @@ impl<'a, R: Wait, C: Clock, E: Recorder, H: FrameHandle<R, C, E>> FrameHandling<
 
     /// Drops the part of the choreographer's record that was not dropped before. At NoMemory it stays.
     pub(crate) fn let_frames_go(&mut self) -> Handled
-        requires frames { IsOf self.old.frames self.old.choreographer.now }
+        requires frames { IsPassOf self.old.frames self.old.choreographer.now }
         requires last { self.old.frames.number + 1 ≡ self.old.choreographer.now.constants.passes }
         requires seals { self.old.choreographer.now.constants.seals ≡ true }
         ensures drops { OnOk result (DropsFrames self.old.frames self.new.frames) }
@@ -170,7 +170,7 @@ impl<'a, R: Wait, C: Clock, E: Recorder, H: FrameHandle<R, C, E>> FrameHandling<
 
     // Schedules a frame where the phase has a due callback and none is scheduled.
     fn on_due(&mut self, phase: u32)
-        requires frames { IsOf self.old.frames self.old.choreographer.now }
+        requires frames { IsPassOf self.old.frames self.old.choreographer.now }
         requires phases { self.old.choreographer.now.constants.phases ≡ 5 }
         ensures serves { KeepsServing self.old self.new }
         ensures handlers { self.new.handlers ≡ self.old.handlers }

@@ -14,7 +14,7 @@ use std::sync::Wait;
 /// The code of a looper's handlers and frame callbacks. What they post themselves they post by the screen that they are lent. After
 /// NoMemory the looper gives up.
 pub trait FrameHandle<R: Wait, C: Clock, E: Recorder> {
-    /// A fact of the handlers' own, which each call keeps unless memory was wanting. By default there is none.
+    /// A fact of the handlers' own, which each call keeps unless memory ran out. By default there is none.
     ghost Holds: { Self → Type 0 } = { λ h. Unit {0} };
 
     /// Handles a message without a callback, which the looper just took, and which was due at `now` or before, in milliseconds. Which

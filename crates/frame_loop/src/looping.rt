@@ -1,8 +1,8 @@
 //! The loop of a looper with frames.
 ghost use Rattle.std.specs.Prelude.{◌≡◌, ◌+◌, ◌<◌, true, false, None, OnOk, IfOk};
-ghost use Rattle.choreographer.specs.Known.{IsOf};
+ghost use Rattle.choreographer.specs.Known.{IsPassOf};
 ghost use Rattle.frame_loop.specs.FrameLooping.{FramesToItsEnd};
-ghost use Rattle.plain_loop.specs.Senders.{IsLooper};
+ghost use Rattle.plain_loop.specs.Senders.{IsQueueLooper};
 
 use crate::dispatching::FrameHandling;
 use crate::handlers::FrameHandle;
@@ -23,7 +23,7 @@ fn open_frames(
     period: u64,
 ) -> Result<(Choreographer, FramePass, FramePass), NoMemory>
     requires { 0 < period }
-    ensures passes { IfOk result (λ r. IsOf r.1 r.0 × IsOf r.2 r.0) }
+    ensures passes { IfOk result (λ r. IsPassOf r.1 r.0 × IsPassOf r.2 r.0) }
     ensures last { IfOk result (λ r. r.1.number + 1 ≡ r.0.constants.passes) }
     ensures constants { IfOk result (λ r. (r.0.constants.phases ≡ 5) × (r.0.constants.seals ≡ true) × (r.0.constants.pulses ≡ None)) }
 {
@@ -43,7 +43,7 @@ pub fn run_frame_looper<R: Wait + time::Clock, C: Clock, E: LetGo, H: FrameHandl
     period: u64,
     handlers: H,
 ) -> Result<H, NoMemory>
-    requires looper { IsLooper mailbox.now.queue.now mailbox.now.pool.now looper.old }
+    requires looper { IsQueueLooper mailbox.now.queue.now mailbox.now.pool.now looper.old }
     requires free { mailbox.now.queue.now.constants.setting.lockstep ≡ false }
     requires period { 0 < period }
     requires holds { H.Holds handlers }

@@ -4,8 +4,8 @@ ghost use Rattle.loop_model.specs.Posts.{moment_after};
 ghost use Rattle.handler_post.specs.Ways.{MadeNone};
 ghost use Rattle.handler_post.specs.Sends.{Sends, Erases, Has};
 ghost use Rattle.handler_post.specs.Unhandled.{Bars, Unbars, Quits};
-ghost use Rattle.plain_loop.specs.Lines.{due_at, AtNow};
-ghost use Rattle.frame_loop.specs.Screens.{IsScreen, KeepsScreen, KeepsFrames, screen_way};
+ghost use Rattle.plain_loop.specs.Lines.{post_for, AtNow};
+ghost use Rattle.frame_loop.specs.Screens.{IsScreen, KeepsScreen, KeepsCallbacks, screen_way};
 
 use crate::screen::Screen;
 use handler_post::{Erased, Quit, Sent};
@@ -27,8 +27,8 @@ impl<'a, 'b, R: Wait, C: Clock, E: Recorder> Screen<'a, 'b, R, C, E> {
     pub fn send(&mut self, post: Post) -> Sent
         requires { IsScreen self.old }
         ensures keeps { KeepsScreen self.old self.new }
-        ensures frames { KeepsFrames self.old self.new }
-        ensures sent { AtNow (C.shows self.old.clock.now) (λ now. Sends (due_at post now) (screen_way self.old) (screen_way self.new) result) }
+        ensures frames { KeepsCallbacks self.old self.new }
+        ensures sent { AtNow (C.shows self.old.clock.now) (λ now. Sends (post_for post now) (screen_way self.old) (screen_way self.new) result) }
     {
         let mut line = Line {
             rt: self.rt,
@@ -46,8 +46,8 @@ impl<'a, 'b, R: Wait, C: Clock, E: Recorder> Screen<'a, 'b, R, C, E> {
     pub fn send_at(&mut self, post: Post, when: u64) -> Sent
         requires { IsScreen self.old }
         ensures keeps { KeepsScreen self.old self.new }
-        ensures frames { KeepsFrames self.old self.new }
-        ensures sent { Sends (due_at post when) (screen_way self.old) (screen_way self.new) result }
+        ensures frames { KeepsCallbacks self.old self.new }
+        ensures sent { Sends (post_for post when) (screen_way self.old) (screen_way self.new) result }
     {
         let mut line = Line {
             rt: self.rt,
@@ -65,8 +65,8 @@ impl<'a, 'b, R: Wait, C: Clock, E: Recorder> Screen<'a, 'b, R, C, E> {
     pub fn send_delayed(&mut self, post: Post, delay: u64) -> Sent
         requires { IsScreen self.old }
         ensures keeps { KeepsScreen self.old self.new }
-        ensures frames { KeepsFrames self.old self.new }
-        ensures sent { AtNow (C.shows self.old.clock.now) (λ now. Sends (due_at post (moment_after now delay)) (screen_way self.old) (screen_way self.new) result) }
+        ensures frames { KeepsCallbacks self.old self.new }
+        ensures sent { AtNow (C.shows self.old.clock.now) (λ now. Sends (post_for post (moment_after now delay)) (screen_way self.old) (screen_way self.new) result) }
     {
         let mut line = Line {
             rt: self.rt,
@@ -84,8 +84,8 @@ impl<'a, 'b, R: Wait, C: Clock, E: Recorder> Screen<'a, 'b, R, C, E> {
     pub fn send_at_front(&mut self, post: Post) -> Sent
         requires { IsScreen self.old }
         ensures keeps { KeepsScreen self.old self.new }
-        ensures frames { KeepsFrames self.old self.new }
-        ensures sent { Sends (due_at post 0) (screen_way self.old) (screen_way self.new) result }
+        ensures frames { KeepsCallbacks self.old self.new }
+        ensures sent { Sends (post_for post 0) (screen_way self.old) (screen_way self.new) result }
     {
         let mut line = Line {
             rt: self.rt,
@@ -103,7 +103,7 @@ impl<'a, 'b, R: Wait, C: Clock, E: Recorder> Screen<'a, 'b, R, C, E> {
     pub fn remove(&mut self, filter: Filter) -> Erased
         requires { IsScreen self.old }
         ensures keeps { KeepsScreen self.old self.new }
-        ensures frames { KeepsFrames self.old self.new }
+        ensures frames { KeepsCallbacks self.old self.new }
         ensures erased { Erases filter (screen_way self.old) (screen_way self.new) result }
     {
         let mut line = Line {
@@ -122,7 +122,7 @@ impl<'a, 'b, R: Wait, C: Clock, E: Recorder> Screen<'a, 'b, R, C, E> {
     pub fn has(&mut self, filter: Filter) -> bool
         requires { IsScreen self.old }
         ensures keeps { KeepsScreen self.old self.new }
-        ensures frames { KeepsFrames self.old self.new }
+        ensures frames { KeepsCallbacks self.old self.new }
         ensures has { Has filter (screen_way self.old) (screen_way self.new) result }
     {
         let mut line = Line {
@@ -141,7 +141,7 @@ impl<'a, 'b, R: Wait, C: Clock, E: Recorder> Screen<'a, 'b, R, C, E> {
     pub fn post_barrier(&mut self) -> Result<u64, NoMemory>
         requires { IsScreen self.old }
         ensures keeps { KeepsScreen self.old self.new }
-        ensures frames { KeepsFrames self.old self.new }
+        ensures frames { KeepsCallbacks self.old self.new }
         ensures barred { IfOk result (λ token. AtNow (C.shows self.old.clock.now) (λ now. Bars now token (screen_way self.old) (screen_way self.new))) }
         ensures none { OnErr result (MadeNone self.old.poster.now self.new.poster.now) }
     {
@@ -161,7 +161,7 @@ impl<'a, 'b, R: Wait, C: Clock, E: Recorder> Screen<'a, 'b, R, C, E> {
     pub fn remove_barrier(&mut self, token: u64) -> Result<bool, NoMemory>
         requires { IsScreen self.old }
         ensures keeps { KeepsScreen self.old self.new }
-        ensures frames { KeepsFrames self.old self.new }
+        ensures frames { KeepsCallbacks self.old self.new }
         ensures unbarred { IfOk result (λ was. Unbars token was (screen_way self.old) (screen_way self.new)) }
         ensures none { OnErr result (MadeNone self.old.poster.now self.new.poster.now) }
     {
@@ -181,7 +181,7 @@ impl<'a, 'b, R: Wait, C: Clock, E: Recorder> Screen<'a, 'b, R, C, E> {
     pub fn quit_safely(&mut self) -> Quit
         requires { IsScreen self.old }
         ensures keeps { KeepsScreen self.old self.new }
-        ensures frames { KeepsFrames self.old self.new }
+        ensures frames { KeepsCallbacks self.old self.new }
         ensures quits { AtNow (C.shows self.old.clock.now) (λ now. Quits true now (screen_way self.old) (screen_way self.new) result) }
     {
         let mut line = Line {
@@ -200,7 +200,7 @@ impl<'a, 'b, R: Wait, C: Clock, E: Recorder> Screen<'a, 'b, R, C, E> {
     pub fn quit(&mut self) -> Quit
         requires { IsScreen self.old }
         ensures keeps { KeepsScreen self.old self.new }
-        ensures frames { KeepsFrames self.old self.new }
+        ensures frames { KeepsCallbacks self.old self.new }
         ensures quits { AtNow (C.shows self.old.clock.now) (λ now. Quits false now (screen_way self.old) (screen_way self.new) result) }
     {
         let mut line = Line {

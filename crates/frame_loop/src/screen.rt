@@ -1,7 +1,7 @@
 //! What the code of a looper with frames is lent, and its frame callbacks.
 ghost use Rattle.std.specs.Prelude.{◌≡◌, ◌<◌, None};
 ghost use Rattle.choreographer.specs.Calls.{RemovedBy};
-ghost use Rattle.frame_loop.specs.Screens.{IsScreen, KeepsScreen, KeepsWay, PostsFrame, number_of};
+ghost use Rattle.frame_loop.specs.Screens.{IsScreen, KeepsScreen, KeepsWay, PostsCallback, phase_number};
 
 use crate::outbox::FrameOutbox;
 use choreographer::{Choreographer, FramePass, Placed};
@@ -34,7 +34,7 @@ pub enum Phase {
 impl Phase {
     /// Its number, as its choreographer has it.
     pub fn number(self) -> u32
-        ensures number { result ≡ number_of self }
+        ensures number { result ≡ phase_number self }
         ensures few { result < 5 }
     {
         match self {
@@ -78,7 +78,7 @@ impl<'a, 'b, R: Wait, C: Clock, E: Recorder> Screen<'a, 'b, R, C, E> {
         requires { IsScreen self.old }
         ensures keeps { KeepsScreen self.old self.new }
         ensures way { KeepsWay self.old self.new }
-        ensures posted { PostsFrame C.shows self.old self.new 1 id None 0 result }
+        ensures posted { PostsCallback C.shows self.old self.new 1 id None 0 result }
     {
         self.post_callback(Phase::Animation, id, None, 0)
     }
@@ -88,7 +88,7 @@ impl<'a, 'b, R: Wait, C: Clock, E: Recorder> Screen<'a, 'b, R, C, E> {
         requires { IsScreen self.old }
         ensures keeps { KeepsScreen self.old self.new }
         ensures way { KeepsWay self.old self.new }
-        ensures posted { PostsFrame C.shows self.old self.new 1 id None delay result }
+        ensures posted { PostsCallback C.shows self.old self.new 1 id None delay result }
     {
         self.post_callback(Phase::Animation, id, None, delay)
     }
@@ -110,7 +110,7 @@ impl<'a, 'b, R: Wait, C: Clock, E: Recorder> Screen<'a, 'b, R, C, E> {
         requires { IsScreen self.old }
         ensures keeps { KeepsScreen self.old self.new }
         ensures way { KeepsWay self.old self.new }
-        ensures posted { PostsFrame C.shows self.old self.new (number_of phase) id token delay result }
+        ensures posted { PostsCallback C.shows self.old self.new (phase_number phase) id token delay result }
     {
         let number = phase.number();
         self.choreographer
@@ -128,7 +128,7 @@ impl<'a, 'b, R: Wait, C: Clock, E: Recorder> Screen<'a, 'b, R, C, E> {
         requires { IsScreen self.old }
         ensures keeps { KeepsScreen self.old self.new }
         ensures way { KeepsWay self.old self.new }
-        ensures removed { RemovedBy self.old.asks.now self.new.asks.now (number_of phase) id token result }
+        ensures removed { RemovedBy self.old.asks.now self.new.asks.now (phase_number phase) id token result }
     {
         let number = phase.number();
         self.choreographer

@@ -5,7 +5,7 @@ use Rattle.std.proofs.Math.Nat.{mod-lt, zero-mod, min-eq_left, min-eq_right, add
 use Rattle.std.proofs.lemmas.Nat.{div-add-mod', le-div, mul-le}
 use Rattle.std.proofs.lemmas.Bool.{cases_lt, cond-true, cond_both, lt-ltb, or_cases, and_parts, eqb-true, ltb-true}
 use Rattle.frame_phases.specs.declared.entry.FrameEntry.{FrameEntry}
-use Rattle.frame_phases.specs.Frames.{is_pulse, frame_time, commit_time, take_time, last_time, taken}
+use Rattle.frame_phases.specs.Frames.{is_pulse, frame_time, commit_time, take_time, last_time, taken_callbacks}
 use Rattle.frame_phases.specs.Pulses.{is_stamp, comes_after}
 
 -- a multiple of the interval up to a moment is no later than the greatest one
@@ -103,7 +103,7 @@ module _ (interval v w s t : ℕ) (above : 0 < interval) (stamp : is_stamp inter
 pub take_at_most : (interval phases : ℕ) (past : List FrameEntry) (phase now w t : ℕ) → 0 < interval → now ≤ t → last_time past ≤ frame_time interval w t
     → take_time interval phases past phase now ≤ frame_time interval w t
 take_at_most interval phases past phase now w t above le before =
-    cond_both ((phase + 1 == phases) && not (length (taken past phase now) == 0)) (commit_time interval (last_time past) now) (last_time past) (λ (n : ℕ). n ≤ frame_time interval w t)
+    cond_both ((phase + 1 == phases) && not (length (taken_callbacks past phase now) == 0)) (commit_time interval (last_time past) now) (last_time past) (λ (n : ℕ). n ≤ frame_time interval w t)
     (λ e. by_late (now - last_time past) (frame_time interval w t) before (time_at_least interval w t above))
     (λ e. before)
   where

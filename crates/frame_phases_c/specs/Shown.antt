@@ -4,7 +4,7 @@ use Rattle.std.specs.Prelude.{is_some}
 use Rattle.std.specs.List.{list_any}
 use Rattle.loop_model.specs.declared.memory.NoMemory.{NoMemory}
 use Rattle.frame_phases.specs.State.{Frames, past, scheduled_at, next_callback, scheduling, posted, removed, delivered, BeginsBy, TakesBy}
-use Rattle.frame_phases.specs.Frames.{removed_count, is_due, live, next_phase}
+use Rattle.frame_phases.specs.Frames.{removed_count, is_due, live_callbacks, next_phase}
 use Rattle.frame_phases.specs.Pulses.{pulse}
 use Rattle.frame_phases.specs.declared.entry.Callback.{Callback}
 use Rattle.frame_phases.specs.declared.entry.Scheduling.{Scheduling}
@@ -77,8 +77,8 @@ abbrev pub IsNotOpen : FrameAnswer → Type 0
 IsNotOpen r = r ≡ answer_as not_open_kind 0 0
 
 -- the token, where its flag says so
-abbrev pub token_of : Bool → ℕ → Option ℕ
-token_of has token = if has then Some token else None
+abbrev pub token_where : Bool → ℕ → Option ℕ
+token_where has token = if has then Some token else None
 
 abbrev pub number_or_0 : Option ℕ → ℕ
 number_or_0 None = 0
@@ -93,7 +93,7 @@ shown_scheduling (Asked at) = answer_as asked_kind 0 at
 shown_scheduling (Later due) = answer_as later_kind 0 due
 shown_scheduling Already = answer_as already_kind 0 0
 
--- an answer, or want of memory
+-- an answer, or out of memory
 abbrev pub shown : Result FrameAnswer NoMemory → FrameAnswer
 shown (Ok r) = r
 shown (Err e) = answer_as no_memory_kind 0 0
@@ -103,7 +103,7 @@ abbrev pub post_answer : Frames → FrameCallback → ℕ → FrameAnswer
 post_answer x c now = if nat_lt c.phase x.phases then shown_scheduling (scheduling x c.due now) else answer_as no_phase_kind 0 0
 
 abbrev pub post_left : Frames → FrameCallback → ℕ → Frames
-post_left x c now = if nat_lt c.phase x.phases then posted x (next_callback x c.phase c.due c.id (token_of c.has_token c.token)) now else x
+post_left x c now = if nat_lt c.phase x.phases then posted x (next_callback x c.phase c.due c.id (token_where c.has_token c.token)) now else x
 
 abbrev pub Posts : Frames → FrameCallback → ℕ → Result FrameAnswer NoMemory → Frames → Type 0
 Posts x c now (Ok r) y = (r ≡ post_answer x c now) × (y ≡ post_left x c now)
@@ -117,10 +117,10 @@ forgotten x = record x { sealed = x.entries }
 abbrev pub remove_answer : Frames → FrameCallback → FrameAnswer
 remove_answer x c =
     if nat_lt c.phase x.phases
-    then answer_as removed_kind (removed_count (past x) c.phase c.id (token_of c.has_token c.token)) 0 else answer_as no_phase_kind 0 0
+    then answer_as removed_kind (removed_count (past x) c.phase c.id (token_where c.has_token c.token)) 0 else answer_as no_phase_kind 0 0
 
 abbrev pub remove_left : Frames → FrameCallback → Frames
-remove_left x c = if nat_lt c.phase x.phases then removed (forgotten x) c.phase c.id (token_of c.has_token c.token) else x
+remove_left x c = if nat_lt c.phase x.phases then removed (forgotten x) c.phase c.id (token_where c.has_token c.token) else x
 
 -- a removal drops what was recorded before; where it then finds no memory, all else is as before
 abbrev pub Removes : Frames → FrameCallback → Result FrameAnswer NoMemory → Frames → Type 0
@@ -137,7 +137,7 @@ schedule_answer x now = shown_schedule (if x.scheduled then None else Some (puls
 
 -- whether the phase has a callback that is due
 abbrev pub has_due : Frames → ℕ → ℕ → Bool
-has_due x phase now = list_any (is_due phase (now / 1000000)) (live (past x))
+has_due x phase now = list_any (is_due phase (now / 1000000)) (live_callbacks (past x))
 
 -- what a look for due callbacks of a phase answers and leaves: it schedules a frame where there is one
 abbrev pub due_answer : Frames → ℕ → ℕ → FrameAnswer
@@ -186,9 +186,9 @@ Steps a now step.Ended b =
 Steps a now step.NoMemory b = (a.batch ≡ []) × (is_some (next_phase a.frames.phases (past a.frames)) ≡ true) × (b ≡ a)
 
 -- a try to take this phase: a step, or the phase that is to be taken instead, if any
-abbrev pub TakesPhase : Contents → ℕ → ℕ → Result Step (Option ℕ) → Contents → Type 0
-TakesPhase a phase now (Ok s) b = Steps a now s b
-TakesPhase a phase now (Err next) b = (next ≡ next_phase a.frames.phases (past a.frames)) × (next ≢ Some phase) × (b ≡ a)
+abbrev pub TriesPhase : Contents → ℕ → ℕ → Result Step (Option ℕ) → Contents → Type 0
+TriesPhase a phase now (Ok s) b = Steps a now s b
+TriesPhase a phase now (Err next) b = (next ≡ next_phase a.frames.phases (past a.frames)) × (next ≢ Some phase) × (b ≡ a)
 
 -- a callback of which nothing is set
 abbrev pub no_callback : FrameCallback
@@ -204,8 +204,8 @@ abbrev pub HasNotOpen : FrameLook → Type 0
 HasNotOpen r = r ≡ record { callback = no_callback; number = 0; time = 0; kind = not_open_kind }
 
 -- what each call of C does, with some answer of the library that C sees so
-abbrev pub Keeps : (Frames → Frames → Type 0) → Contents → Contents → Type 0
-Keeps made a b = made a.frames b.frames × (b ≡ record a { frames = b.frames })
+abbrev pub ChangesFrames : (Frames → Frames → Type 0) → Contents → Contents → Type 0
+ChangesFrames made a b = made a.frames b.frames × (b ≡ record a { frames = b.frames })
 
 -- a pulse that was asked for and is no later than now was delivered
 abbrev pub PulseShown : ℕ → FrameAnswer → Frames → Frames → Type 0

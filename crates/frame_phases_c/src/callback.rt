@@ -1,6 +1,6 @@
 // A callback as C has it.
 ghost use Rattle.std.specs.Prelude.{◌≡◌, Option};
-ghost use Rattle.frame_phases_c.specs.Shown.{fields_of, token_of, number_or_0, no_callback};
+ghost use Rattle.frame_phases_c.specs.Shown.{fields_of, token_where, number_or_0, no_callback};
 
 use frame_phases::Callback;
 
@@ -55,7 +55,7 @@ impl FrameCallback {
     }
 
     pub(crate) fn token(&self) -> Option<u64>
-        ensures { result ≡ token_of self.now.has_token self.now.token }
+        ensures { result ≡ token_where self.now.has_token self.now.token }
     {
         if self.has_token {
             return Some(self.token);

@@ -2,7 +2,7 @@
 ghost use Rattle.std.specs.Prelude.{◌≡◌, ◌<◌, [], IfOk, MatchResult};
 ghost use Rattle.frame_phases.specs.State.{scheduled_at, delivered};
 ghost use Rattle.frame_phases_c.specs.Contents.{just_opened};
-ghost use Rattle.frame_phases_c.specs.Shown.{Keeps, PostShown, RemoveShown, StartShown, StepShown, Posts, Removes, Starts, Steps, TakesPhase, forgotten, schedule_answer, shown_pulse, due_answer, due_left, deliver_left};
+ghost use Rattle.frame_phases_c.specs.Shown.{ChangesFrames, PostShown, RemoveShown, StartShown, StepShown, Posts, Removes, Starts, Steps, TriesPhase, forgotten, schedule_answer, shown_pulse, due_answer, due_left, deliver_left};
 
 use crate::answers::{
     FrameAnswer, FrameLook, no_phase, nothing, removed, shown, shown_pulse, shown_schedule,
@@ -71,7 +71,7 @@ impl Kept {
 
     /// Posts the callback.
     pub(crate) fn post(&mut self, callback: &FrameCallback, now: u64) -> FrameAnswer
-        ensures { Keeps (λ x y. PostShown callback.now now result x y) self.old self.new }
+        ensures { ChangesFrames (λ x y. PostShown callback.now now result x y) self.old self.new }
     {
         shown(self.try_post(callback, now))
     }
@@ -92,21 +92,21 @@ impl Kept {
 
     /// Removes the callbacks of its phase with its id, and with its token where it has one.
     pub(crate) fn remove(&mut self, callback: &FrameCallback) -> FrameAnswer
-        ensures { Keeps (λ x y. RemoveShown callback.now result x y) self.old self.new }
+        ensures { ChangesFrames (λ x y. RemoveShown callback.now result x y) self.old self.new }
     {
         shown(self.try_remove(callback))
     }
 
     /// Schedules a frame.
     pub(crate) fn schedule(&mut self, now: u64) -> FrameAnswer
-        ensures { Keeps (λ x y. (result ≡ schedule_answer x now) × (y ≡ scheduled_at x now)) self.old self.new }
+        ensures { ChangesFrames (λ x y. (result ≡ schedule_answer x now) × (y ≡ scheduled_at x now)) self.old self.new }
     {
         shown_schedule(self.frames.schedule(now))
     }
 
     /// Schedules a frame where the phase has a callback that is due.
     pub(crate) fn due(&mut self, phase: u32, now: u64) -> FrameAnswer
-        ensures { Keeps (λ x y. (result ≡ due_answer x phase now) × (y ≡ due_left x phase now)) self.old self.new }
+        ensures { ChangesFrames (λ x y. (result ≡ due_answer x phase now) × (y ≡ due_left x phase now)) self.old self.new }
     {
         if phase >= self.phases {
             return no_phase();
@@ -126,7 +126,7 @@ impl Kept {
 
     /// Delivers the pulse that is asked for.
     pub(crate) fn deliver(&mut self, now: u64) -> FrameAnswer
-        ensures { Keeps (λ x y. (result ≡ shown_pulse (delivered x.asked now)) × (y ≡ deliver_left x now)) self.old self.new }
+        ensures { ChangesFrames (λ x y. (result ≡ shown_pulse (delivered x.asked now)) × (y ≡ deliver_left x now)) self.old self.new }
     {
         shown_pulse(self.frames.deliver(now))
     }
@@ -162,7 +162,7 @@ impl Kept {
     fn take_phase(&mut self, phase: u32, now: u64) -> Result<Step, Option<u32>>
         requires within { phase < self.old.frames.phases }
         requires empty { self.old.batch ≡ [] }
-        ensures { TakesPhase self.old phase now result self.new }
+        ensures { TriesPhase self.old phase now result self.new }
     {
         match self.frames.take(phase, now) {
             Took::Batch { time, callbacks } => {

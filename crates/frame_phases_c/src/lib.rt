@@ -5,7 +5,7 @@ ghost use Rattle.std.specs.Prelude.{◌≡◌, ◌||◌, true, false, None, Some
 ghost use Rattle.frame_phases.specs.State.{scheduled_at};
 ghost use Rattle.frame_phases_c.specs.Handed.{inside, Does};
 ghost use Rattle.frame_phases_c.specs.Contents.{just_opened};
-ghost use Rattle.frame_phases_c.specs.Shown.{Keeps, PostShown, RemoveShown, PulseShown, StartShown, StepShown, IsNotOpen, HasNotOpen, schedule_answer, shown_pulse, due_answer, due_left, answer_as, closed_kind};
+ghost use Rattle.frame_phases_c.specs.Shown.{ChangesFrames, PostShown, RemoveShown, PulseShown, StartShown, StepShown, IsNotOpen, HasNotOpen, schedule_answer, shown_pulse, due_answer, due_left, answer_as, closed_kind};
 
 mod answers;
 mod callback;
@@ -70,7 +70,7 @@ pub extern "C" fn mloop_core_frame_post(
     callback: &FrameCallback,
     now: u64,
 ) -> FrameAnswer
-    ensures done { Does (inside frames.old) (inside frames.new) (IsNotOpen result) (Keeps (λ x y. PostShown callback.now now result x y)) }
+    ensures done { Does (inside frames.old) (inside frames.new) (IsNotOpen result) (ChangesFrames (λ x y. PostShown callback.now now result x y)) }
     ensures live { frames.new.live ≡ frames.old.live }
 {
     let Some(mut kept) = frames.take() else {
@@ -87,7 +87,7 @@ pub extern "C" fn mloop_core_frame_remove(
     frames: &mut FrameLoop,
     callback: &FrameCallback,
 ) -> FrameAnswer
-    ensures done { Does (inside frames.old) (inside frames.new) (IsNotOpen result) (Keeps (λ x y. RemoveShown callback.now result x y)) }
+    ensures done { Does (inside frames.old) (inside frames.new) (IsNotOpen result) (ChangesFrames (λ x y. RemoveShown callback.now result x y)) }
     ensures live { frames.new.live ≡ frames.old.live }
 {
     let Some(mut kept) = frames.take() else {
@@ -101,7 +101,7 @@ pub extern "C" fn mloop_core_frame_remove(
 /// Schedules a frame where the phase has a callback that is due at the moment `now`, in nanoseconds.
 #[unsafe(no_mangle)]
 pub extern "C" fn mloop_core_frame_due(frames: &mut FrameLoop, phase: u32, now: u64) -> FrameAnswer
-    ensures done { Does (inside frames.old) (inside frames.new) (IsNotOpen result) (Keeps (λ x y. (result ≡ due_answer x phase now) × (y ≡ due_left x phase now))) }
+    ensures done { Does (inside frames.old) (inside frames.new) (IsNotOpen result) (ChangesFrames (λ x y. (result ≡ due_answer x phase now) × (y ≡ due_left x phase now))) }
     ensures live { frames.new.live ≡ frames.old.live }
 {
     let Some(mut kept) = frames.take() else {
@@ -115,7 +115,7 @@ pub extern "C" fn mloop_core_frame_due(frames: &mut FrameLoop, phase: u32, now: 
 /// Schedules a frame, with the first pulse after the moment `now`, in nanoseconds.
 #[unsafe(no_mangle)]
 pub extern "C" fn mloop_core_frame_schedule(frames: &mut FrameLoop, now: u64) -> FrameAnswer
-    ensures done { Does (inside frames.old) (inside frames.new) (IsNotOpen result) (Keeps (λ x y. (result ≡ schedule_answer x now) × (y ≡ scheduled_at x now))) }
+    ensures done { Does (inside frames.old) (inside frames.new) (IsNotOpen result) (ChangesFrames (λ x y. (result ≡ schedule_answer x now) × (y ≡ scheduled_at x now))) }
     ensures live { frames.new.live ≡ frames.old.live }
 {
     let Some(mut kept) = frames.take() else {
@@ -144,7 +144,7 @@ pub extern "C" fn mloop_core_frame_asked(frames: &mut FrameLoop) -> FrameAnswer
 /// Delivers the pulse that is asked for, if it is not after the moment `now`, in nanoseconds.
 #[unsafe(no_mangle)]
 pub extern "C" fn mloop_core_frame_vsync(frames: &mut FrameLoop, now: u64) -> FrameAnswer
-    ensures done { Does (inside frames.old) (inside frames.new) (IsNotOpen result) (Keeps (PulseShown now result)) }
+    ensures done { Does (inside frames.old) (inside frames.new) (IsNotOpen result) (ChangesFrames (PulseShown now result)) }
     ensures live { frames.new.live ≡ frames.old.live }
 {
     let Some(mut kept) = frames.take() else {

@@ -3,7 +3,7 @@ use Rattle.std.proofs.Common.{◌≡◌, ℕ, suc, ◌+◌, ◌≤◌, cond, Lis
 use Rattle.std.specs.Prelude.{is_some}
 use Rattle.std.proofs.lemmas.List.Sums.{sum_by-cons}
 use Rattle.message_pool.specs.Passes.{Claimed, Node, Tally}
-use Rattle.message_pool.specs.Obtain.{Returned}
+use Rattle.message_pool.specs.Obtain.{IsReturned}
 use Rattle.handler_post.specs.Supply.{slots_in}
 
 -- the pass has brought back some of the messages, and these are left
@@ -14,16 +14,16 @@ pub record IsOnTheWay (nodes rest : List Node) (before after : Tally) : Type 0 w
   pub taken : after.taken ≡ before.taken
   pub share : after.share ≡ before.share
 
-one_back : (claim : Option Claimed) (n : ℕ) (before after : Tally) → Returned claim before after → after.back + n ≡ before.back + (cond {A = ℕ} (is_some claim) 1 0 + n)
+one_back : (claim : Option Claimed) (n : ℕ) (before after : Tally) → IsReturned claim before after → after.back + n ≡ before.back + (cond {A = ℕ} (is_some claim) 1 0 + n)
 one_back None n before after same = let e : after.back ≡ before.back = ap (λ (x : Tally). x.back) same in let all : after.back + n ≡ before.back + (0 + n) = omega (arith, e) in all
 one_back (Some c) n before after one = let more : after.back ≡ before.back + 1 = ap (λ (x : Tally). x.back) one in let all : after.back + n ≡ before.back + (1 + n) = omega (arith, more) in all
 
 -- nothing else of the pass changes
-rest_kept : (claim : Option Claimed) (before after : Tally) → Returned claim before after → (after.looks ≡ before.looks) × (after.lost ≡ before.lost) × (after.taken ≡ before.taken) × (after.share ≡ before.share)
+rest_kept : (claim : Option Claimed) (before after : Tally) → IsReturned claim before after → (after.looks ≡ before.looks) × (after.lost ≡ before.lost) × (after.taken ≡ before.taken) × (after.share ≡ before.share)
 rest_kept None before after same = (ap (λ (x : Tally). x.looks) same, ap (λ (x : Tally). x.lost) same, ap (λ (x : Tally). x.taken) same, ap (λ (x : Tally). x.share) same)
 rest_kept (Some c) before after one = (ap (λ (x : Tally). x.looks) one, ap (λ (x : Tally). x.lost) one, ap (λ (x : Tally). x.taken) one, ap (λ (x : Tally). x.share) one)
 
-pub one_more : (nodes old rest : List Node) (node : Node) (start before after : Tally) → old ≡ node ∷ rest → IsOnTheWay nodes old start before → Returned node.claim before after → IsOnTheWay nodes rest start after
+pub one_more : (nodes old rest : List Node) (node : Node) (start before after : Tally) → old ≡ node ∷ rest → IsOnTheWay nodes old start before → IsReturned node.claim before after → IsOnTheWay nodes rest start after
 one_more nodes old rest node start before after e way back =
     let one = one_back node.claim (slots_in rest) before after back in
     let kept = rest_kept node.claim before after back in

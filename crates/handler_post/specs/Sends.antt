@@ -39,5 +39,5 @@ Erases f before after result = Erasing f before.poster.now after.poster.now befo
 abbrev pub Has : {R P : Type 0} → Filter → Way R P → Way R P → Bool → Type 0
 Has f before after result = HasBy before.poster.now after.poster.now f result × (after.pass.now ≡ before.pass.now)
 
-abbrev pub Idles : {R P : Type 0} → ℕ → Way R P → Way R P → Bool → Type 0
-Idles now before after result = IdledBy before.poster.now after.poster.now now result × (after.pass.now ≡ before.pass.now)
+abbrev pub TellsIdle : {R P : Type 0} → ℕ → Way R P → Way R P → Bool → Type 0
+TellsIdle now before after result = IdledBy before.poster.now after.poster.now now result × (after.pass.now ≡ before.pass.now)

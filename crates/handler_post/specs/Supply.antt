@@ -4,7 +4,7 @@ use Rattle.atomic_table.specs.Seated.{TableId}
 use Rattle.loop_model.specs.declared.post.Post.{Post}
 use Rattle.message_slot.specs.Letter.{slot_by, posted}
 use Rattle.message_pool.specs.Passes.{Claimed, Node, Tally}
-use Rattle.message_pool.specs.Obtain.{HasTaken}
+use Rattle.message_pool.specs.Obtain.{HasTakenSlot}
 
 -- the slot of a claim, where there is one
 abbrev pub slot_in : Option Claimed → Option ℕ
@@ -22,7 +22,7 @@ NoneWasFree before after = (before.looks < after.looks) × ((after.last ≡ 0) �
 -- the pass obtained a message with this claim, and counts its slot: it has none only where no slot was to be had
 abbrev pub Obtains : TableId → Option Claimed → Tally → Tally → Type 0
 Obtains home None before after = NoneWasFree before after
-Obtains home (Some c) before after = (c.home ≡ home) × (c.slot < 50) × HasTaken before after
+Obtains home (Some c) before after = (c.home ≡ home) × (c.slot < 50) × HasTakenSlot before after
 
 -- the pass obtained a message with this claim, and gave its slot back
 abbrev pub ObtainsInVain : TableId → Option Claimed → Tally → Tally → Type 0

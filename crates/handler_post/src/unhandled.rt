@@ -1,6 +1,6 @@
 //! The calls by a way that name no handler: posts and filters as they are, barriers, and quits.
 ghost use Rattle.handler_post.specs.Ways.{IsReady, ByWay};
-ghost use Rattle.handler_post.specs.Sends.{Sends, Erases, Has, Idles};
+ghost use Rattle.handler_post.specs.Sends.{Sends, Erases, Has, TellsIdle};
 ghost use Rattle.handler_post.specs.Unhandled.{WayBars, WayUnbars, Quits};
 
 use crate::supply::{message_of, recycle_all};
@@ -74,7 +74,7 @@ impl<'a, E: Recorder, P: Payload> Way<'a, E, P> {
     /// (`isIdle` of the Android API reference's `MessageQueue`). It makes no entry.
     pub fn is_idle<R: Wait>(&mut self, rt: &R, now: u64) -> bool
         requires { IsReady self.old }
-        ensures { ByWay (Idles now) self.old self.new result }
+        ensures { ByWay (TellsIdle now) self.old self.new result }
     {
         self.poster.is_idle(rt, self.queue, now)
     }

@@ -1,6 +1,6 @@
 //! Sends of messages that carry a value.
 ghost use Rattle.std.specs.Prelude.{◌≡◌, IfOk, IfErr};
-ghost use Rattle.message_pool.specs.Obtain.{IsNodeOf, Returned};
+ghost use Rattle.message_pool.specs.Obtain.{IsNodeOf, IsReturned};
 ghost use Rattle.message_pool.specs.Values.{content_of, content_in};
 ghost use Rattle.handler_post.specs.Ways.{IsReady, ByWay};
 ghost use Rattle.handler_post.specs.Supply.{NoneWasFree};
@@ -63,7 +63,7 @@ pub fn recycle_with<P: Payload>(
     requires node { IsNodeOf pool.now node }
     ensures home { pass.new.home ≡ pool.now }
     ensures value { content_of P.content result ≡ content_in node.claim }
-    ensures back { Returned node.claim pass.old pass.new }
+    ensures back { IsReturned node.claim pass.old pass.new }
 {
     let value = take_value(node.item_mut());
     pool.recycle(pass, node);

@@ -14,7 +14,7 @@ use Rattle.dash_script.specs.declared.script.Line.{Line}
 use Rattle.dash_script.specs.declared.script.Block.{Block}
 use Rattle.dash_script.specs.declared.script.Script.{Script}
 use Rattle.dash_script.specs.declared.statement.Statement.{Statement}
-use Rattle.dash_script.specs.Text.{say, lines, lines_before_end, first_lines, handler_line, gauge_line, rule_line, line_of, block_lines}
+use Rattle.dash_script.specs.Text.{say, script_lines, lines_before_end, opening_lines, handler_statement, gauge_statement, rule_line, line_statement, block_lines}
 use Rattle.dash_script.specs.Reading.{HasText}
 use Rattle.inbox_queue.specs.Bad.{is_bad, bad_line}
 
@@ -48,26 +48,26 @@ find_bad-good n xs x none good = find_bad-append n xs (x ∷ []) none ∙ ap (λ
 
 -- ---- the parts of a script
 
-handlers_good : (n h : ℕ) (ls : List HandlerLine) → find_bad n (map handler_line (enumerate_from h ls)) ≡ None
+handlers_good : (n h : ℕ) (ls : List HandlerLine) → find_bad n (map handler_statement (enumerate_from h ls)) ≡ None
 handlers_good n h [] = refl
 handlers_good n h (l ∷ ls) = go l.asynchronous (handlers_good (n + 1) (h + 1) ls)
   where
-    go : (b : Bool) → find_bad (n + 1) (map handler_line (enumerate_from (h + 1) ls)) ≡ None → cond (is_bad (say (if b then kind.AsyncHandler else kind.Handler) (h ∷ l.looper ∷ []))) (Some n) (find_bad (n + 1) (map handler_line (enumerate_from (h + 1) ls))) ≡ None
+    go : (b : Bool) → find_bad (n + 1) (map handler_statement (enumerate_from (h + 1) ls)) ≡ None → cond (is_bad (say (if b then kind.AsyncHandler else kind.Handler) (h ∷ l.looper ∷ []))) (Some n) (find_bad (n + 1) (map handler_statement (enumerate_from (h + 1) ls))) ≡ None
     go true rest = rest
     go false rest = rest
 
-handlers_count : (h : ℕ) (ls : List HandlerLine) → length (map handler_line (enumerate_from h ls)) ≡ length ls
+handlers_count : (h : ℕ) (ls : List HandlerLine) → length (map handler_statement (enumerate_from h ls)) ≡ length ls
 handlers_count h [] = refl
 handlers_count h (l ∷ ls) = ap suc (handlers_count (h + 1) ls)
 
-first_good : (s : Script) → nat_lt 1 s.loopers ≡ false → find_bad 1 (first_lines s) ≡ None
+first_good : (s : Script) → nat_lt 1 s.loopers ≡ false → find_bad 1 (opening_lines s) ≡ None
 first_good s few = go (s.edition == 2)
   where
     go : (b : Bool) → find_bad 1 (say (if b then kind.Edition2 else kind.Edition1) [] ∷ say kind.Loopers (s.loopers ∷ []) ∷ say kind.Threads (s.threads ∷ []) ∷ []) ≡ None
     go true = ap (λ t. cond t (Some 2) None) few
     go false = ap (λ t. cond t (Some 2) None) few
 
-first_bad : (s : Script) → nat_lt 1 s.loopers ≡ true → find_bad 1 (first_lines s) ≡ Some 2
+first_bad : (s : Script) → nat_lt 1 s.loopers ≡ true → find_bad 1 (opening_lines s) ≡ Some 2
 first_bad s many = go (s.edition == 2)
   where
     go : (b : Bool) → find_bad 1 (say (if b then kind.Edition2 else kind.Edition1) [] ∷ say kind.Loopers (s.loopers ∷ []) ∷ say kind.Threads (s.threads ∷ []) ∷ []) ≡ Some 2
@@ -76,14 +76,14 @@ first_bad s many = go (s.edition == 2)
 
 -- the lines as they stand
 abbrev after_first : Script → List Statement
-after_first s = map handler_line (enumerate_from 0 s.handlers) ++ (map gauge_line (enumerate_from 0 s.gauges) ++ (say kind.Vsync (s.period ∷ []) ∷ (map rule_line s.rules ++ (flat_map block_lines s.blocks ++ say kind.End (s.end ∷ []) ∷ []))))
+after_first s = map handler_statement (enumerate_from 0 s.handlers) ++ (map gauge_statement (enumerate_from 0 s.gauges) ++ (say kind.Vsync (s.period ∷ []) ∷ (map rule_line s.rules ++ (flat_map block_lines s.blocks ++ say kind.End (s.end ∷ []) ∷ []))))
 
-lines_parted : (s : Script) → lines s ≡ first_lines s ++ after_first s
+lines_parted : (s : Script) → script_lines s ≡ opening_lines s ++ after_first s
 unfolding lines_before_end
 lines_parted s =
-    let f = first_lines s in
-    let h = map handler_line (enumerate_from 0 s.handlers) in
-    let g = map gauge_line (enumerate_from 0 s.gauges) in
+    let f = opening_lines s in
+    let h = map handler_statement (enumerate_from 0 s.handlers) in
+    let g = map gauge_statement (enumerate_from 0 s.gauges) in
     let v = say kind.Vsync (s.period ∷ []) ∷ [] in
     let r = map rule_line s.rules in
     let b = flat_map block_lines s.blocks in
@@ -97,17 +97,17 @@ end_good n (x ∷ xs) e good = ap (λ r. cond (is_bad x) (Some n) r) (end_good (
 
 -- more loopers than one
 pub bad_loopers : (s : Script) → 1 < s.loopers → bad_line s ≡ Some 2
-bad_loopers s many = ap (find_bad 1) (lines_parted s) ∙ find_bad-first 1 2 (first_lines s) (after_first s) (first_bad s (lt-ltb 1 s.loopers many))
+bad_loopers s many = ap (find_bad 1) (lines_parted s) ∙ find_bad-first 1 2 (opening_lines s) (after_first s) (first_bad s (lt-ltb 1 s.loopers many))
 
 few_loopers : (s : Script) → (1 < s.loopers → ⊥) → nat_lt 1 s.loopers ≡ false
 few_loopers s few = false_from_ne_true (nat_lt 1 s.loopers) (λ h. few (ltb-true 1 s.loopers h))
 
 behind_handlers : (s : Script) → (1 < s.loopers → ⊥)
-    → bad_line s ≡ find_bad (4 + length s.handlers) (map gauge_line (enumerate_from 0 s.gauges) ++ (say kind.Vsync (s.period ∷ []) ∷ (map rule_line s.rules ++ (flat_map block_lines s.blocks ++ say kind.End (s.end ∷ []) ∷ []))))
+    → bad_line s ≡ find_bad (4 + length s.handlers) (map gauge_statement (enumerate_from 0 s.gauges) ++ (say kind.Vsync (s.period ∷ []) ∷ (map rule_line s.rules ++ (flat_map block_lines s.blocks ++ say kind.End (s.end ∷ []) ∷ []))))
 behind_handlers s few =
-    let h = map handler_line (enumerate_from 0 s.handlers) in
-    let rest = map gauge_line (enumerate_from 0 s.gauges) ++ (say kind.Vsync (s.period ∷ []) ∷ (map rule_line s.rules ++ (flat_map block_lines s.blocks ++ say kind.End (s.end ∷ []) ∷ []))) in
-    ap (find_bad 1) (lines_parted s) ∙ find_bad-append 1 (first_lines s) (h ++ rest) (first_good s (few_loopers s few)) ∙ find_bad-append 4 h rest (handlers_good 4 0 s.handlers)
+    let h = map handler_statement (enumerate_from 0 s.handlers) in
+    let rest = map gauge_statement (enumerate_from 0 s.gauges) ++ (say kind.Vsync (s.period ∷ []) ∷ (map rule_line s.rules ++ (flat_map block_lines s.blocks ++ say kind.End (s.end ∷ []) ∷ []))) in
+    ap (find_bad 1) (lines_parted s) ∙ find_bad-append 1 (opening_lines s) (h ++ rest) (first_good s (few_loopers s few)) ∙ find_bad-append 4 h rest (handlers_good 4 0 s.handlers)
     ∙ ap (λ n. find_bad (4 + n) rest) (handlers_count 0 s.handlers)
 
 -- a gauge
@@ -117,7 +117,7 @@ bad_gauge s n few some is = behind_handlers s few ∙ go s.gauges some ∙ ap So
     rest : List Statement
     rest = say kind.Vsync (s.period ∷ []) ∷ (map rule_line s.rules ++ (flat_map block_lines s.blocks ++ say kind.End (s.end ∷ []) ∷ []))
 
-    go : (gs : List GaugeLine) → (length gs ≡ 0 → ⊥) → find_bad (4 + length s.handlers) (map gauge_line (enumerate_from 0 gs) ++ rest) ≡ Some (4 + length s.handlers)
+    go : (gs : List GaugeLine) → (length gs ≡ 0 → ⊥) → find_bad (4 + length s.handlers) (map gauge_statement (enumerate_from 0 gs) ++ rest) ≡ Some (4 + length s.handlers)
     go [] some = absurd (some refl)
     go (g ∷ gs) some = refl
 
@@ -127,7 +127,7 @@ behind_vsync s few none = behind_handlers s few ∙ go s.gauges none
     rest : List Statement
     rest = map rule_line s.rules ++ (flat_map block_lines s.blocks ++ say kind.End (s.end ∷ []) ∷ [])
 
-    go : (gs : List GaugeLine) → length gs ≡ 0 → find_bad (4 + length s.handlers) (map gauge_line (enumerate_from 0 gs) ++ say kind.Vsync (s.period ∷ []) ∷ rest) ≡ find_bad (5 + length s.handlers) rest
+    go : (gs : List GaugeLine) → length gs ≡ 0 → find_bad (4 + length s.handlers) (map gauge_statement (enumerate_from 0 gs) ++ say kind.Vsync (s.period ∷ []) ∷ rest) ≡ find_bad (5 + length s.handlers) rest
     go [] none = ap (λ k. find_bad k rest) (let e : 4 + length s.handlers + 1 ≡ 5 + length s.handlers = omega arith in e)
     go (g ∷ gs) none = absurd (omega arith)
 
@@ -159,33 +159,33 @@ bad_command s n found few none none' is found_is =
 -- ---- line by line
 
 -- the lines so far are known, and so is the next one
-pub line_more : (n i : ℕ) (ls : List Line) (d : Line) → i < length ls → find_bad n (map line_of (take i ls)) ≡ None → is_bad (line_of (get_or ls i d)) ≡ false → find_bad n (map line_of (take (i + 1) ls)) ≡ None
+pub line_more : (n i : ℕ) (ls : List Line) (d : Line) → i < length ls → find_bad n (map line_statement (take i ls)) ≡ None → is_bad (line_statement (get_or ls i d)) ≡ false → find_bad n (map line_statement (take (i + 1) ls)) ≡ None
 line_more n i ls d lt none good =
     let x = get_or ls i d in
-    ap (λ l. find_bad n (map line_of l)) (take_more ls i d lt) ∙ ap (find_bad n) (map-append line_of (take i ls) (x ∷ [])) ∙ find_bad-good n (map line_of (take i ls)) (line_of x) none good
+    ap (λ l. find_bad n (map line_statement l)) (take_more ls i d lt) ∙ ap (find_bad n) (map-append line_statement (take i ls) (x ∷ [])) ∙ find_bad-good n (map line_statement (take i ls)) (line_statement x) none good
 
 -- the lines so far are known, and the next one is not
-pub line_found : (n k i : ℕ) (ls : List Line) (d : Line) → i < length ls → find_bad n (map line_of (take i ls)) ≡ None → is_bad (line_of (get_or ls i d)) ≡ true → k ≡ n + i → Some k ≡ find_bad n (map line_of ls)
+pub line_found : (n k i : ℕ) (ls : List Line) (d : Line) → i < length ls → find_bad n (map line_statement (take i ls)) ≡ None → is_bad (line_statement (get_or ls i d)) ≡ true → k ≡ n + i → Some k ≡ find_bad n (map line_statement ls)
 line_found n k i ls d lt none bad is =
     let x = get_or ls i d in
     let front = length-take i ls in
     let short : length (take i ls) ≡ i = omega (arith, lt, front) in
-    let count : length (map line_of (take i ls)) ≡ length (take i ls) = length-map (take i ls) line_of in
-    let here : find_bad n (map line_of (take (i + 1) ls)) ≡ Some k =
-    ap (λ l. find_bad n (map line_of l)) (take_more ls i d lt) ∙ ap (find_bad n) (map-append line_of (take i ls) (x ∷ []))
-    ∙ find_bad-one n k (map line_of (take i ls)) (line_of x) none (let e : k ≡ n + length (map line_of (take i ls)) = omega (arith, is, count, short) in e) bad in
-    sym (ap (λ l. find_bad n (map line_of l)) (sym (take-append-drop (i + 1) ls)) ∙ ap (find_bad n) (map-append line_of (take (i + 1) ls) (drop (i + 1) ls))
-    ∙ find_bad-first n k (map line_of (take (i + 1) ls)) (map line_of (drop (i + 1) ls)) here)
+    let count : length (map line_statement (take i ls)) ≡ length (take i ls) = length-map (take i ls) line_statement in
+    let here : find_bad n (map line_statement (take (i + 1) ls)) ≡ Some k =
+    ap (λ l. find_bad n (map line_statement l)) (take_more ls i d lt) ∙ ap (find_bad n) (map-append line_statement (take i ls) (x ∷ []))
+    ∙ find_bad-one n k (map line_statement (take i ls)) (line_statement x) none (let e : k ≡ n + length (map line_statement (take i ls)) = omega (arith, is, count, short) in e) bad in
+    sym (ap (λ l. find_bad n (map line_statement l)) (sym (take-append-drop (i + 1) ls)) ∙ ap (find_bad n) (map-append line_statement (take (i + 1) ls) (drop (i + 1) ls))
+    ∙ find_bad-first n k (map line_statement (take (i + 1) ls)) (map line_statement (drop (i + 1) ls)) here)
 
 -- all lines are known
-pub lines_good : (n i : ℕ) (ls : List Line) → length ls ≤ i → find_bad n (map line_of (take i ls)) ≡ None → None ≡ find_bad n (map line_of ls)
-lines_good n i ls le none = sym (ap (λ l. find_bad n (map line_of l)) (sym (take_all i ls le)) ∙ none)
+pub lines_good : (n i : ℕ) (ls : List Line) → length ls ≤ i → find_bad n (map line_statement (take i ls)) ≡ None → None ≡ find_bad n (map line_statement ls)
+lines_good n i ls le none = sym (ap (λ l. find_bad n (map line_statement l)) (sym (take_all i ls le)) ∙ none)
 
 -- ---- block by block
 
 -- the lines of one block more
 block_next : (n i : ℕ) (bs : List Block) (d : Block) → i < length bs → find_bad n (flat_map block_lines (take i bs)) ≡ None
-    → find_bad n (flat_map block_lines (take (i + 1) bs)) ≡ find_bad (n + length (flat_map block_lines (take i bs)) + 1) (map line_of (get_or bs i d).lines)
+    → find_bad n (flat_map block_lines (take (i + 1) bs)) ≡ find_bad (n + length (flat_map block_lines (take i bs)) + 1) (map line_statement (get_or bs i d).lines)
 block_next n i bs d lt none =
     let b = get_or bs i d in
     ap (λ l. find_bad n (flat_map block_lines l)) (take_more bs i d lt)
@@ -194,9 +194,9 @@ block_next n i bs d lt none =
     ∙ ap (λ l. find_bad (n + length (flat_map block_lines (take i bs))) l) (append-nil (block_lines b))
 
 pub block_more : (start here i : ℕ) (bs : List Block) (d : Block) (found : Option ℕ) → i < length bs → find_bad (start + 1) (flat_map block_lines (take i bs)) ≡ None
-    → here ≡ start + length (flat_map block_lines (take i bs)) + 1 → found ≡ find_bad (here + 1) (map line_of (get_or bs i d).lines) → found ≡ find_bad (start + 1) (flat_map block_lines (take (i + 1) bs))
+    → here ≡ start + length (flat_map block_lines (take i bs)) + 1 → found ≡ find_bad (here + 1) (map line_statement (get_or bs i d).lines) → found ≡ find_bad (start + 1) (flat_map block_lines (take (i + 1) bs))
 block_more start here i bs d found lt none is found_is =
-    found_is ∙ ap (λ k. find_bad k (map line_of (get_or bs i d).lines)) (let e : here + 1 ≡ start + 1 + length (flat_map block_lines (take i bs)) + 1 = omega (arith, is) in e)
+    found_is ∙ ap (λ k. find_bad k (map line_statement (get_or bs i d).lines)) (let e : here + 1 ≡ start + 1 + length (flat_map block_lines (take i bs)) + 1 = omega (arith, is) in e)
     ∙ sym (block_next (start + 1) i bs d lt none)
 
 -- what is found among the first blocks is found among all
@@ -220,28 +220,28 @@ block_count i bs d lt =
     let whole : length (flat_map block_lines (take (i + 1) bs)) ≡ length (flat_map block_lines (take i bs) ++ block_lines b) =
     ap (λ l. length (flat_map block_lines l)) (take_more bs i d lt) ∙ ap length (flat_map-append block_lines (take i bs) (b ∷ [])) ∙ ap (λ l. length (flat_map block_lines (take i bs) ++ l)) (append-nil (block_lines b)) in
     let sum = length-append (flat_map block_lines (take i bs)) (block_lines b) in
-    let own : length (map line_of b.lines) ≡ length b.lines = length-map b.lines line_of in
+    let own : length (map line_statement b.lines) ≡ length b.lines = length-map b.lines line_statement in
     let e : length (flat_map block_lines (take (i + 1) bs)) ≡ length (flat_map block_lines (take i bs)) + 1 + length b.lines = omega (arith, whole, sum, own) in e
 
 pub block_fits : (i : ℕ) (bs : List Block) (d : Block) → i < length bs → length (flat_map block_lines (take i bs)) + 1 + length (get_or bs i d).lines ≤ length (flat_map block_lines bs)
 block_fits i bs d lt =
     let b = get_or bs i d in
     let within = length-flat_map-take block_lines bs i d lt in
-    let own : length (map line_of b.lines) ≡ length b.lines = length-map b.lines line_of in
+    let own : length (map line_statement b.lines) ≡ length b.lines = length-map b.lines line_statement in
     let e : length (flat_map block_lines (take i bs)) + 1 + length b.lines ≤ length (flat_map block_lines bs) = omega (arith, within, own) in e
 
 -- the blocks have no more lines than a script may have
 pub few_lines : (s : Script) → HasText s → length (flat_map block_lines s.blocks) ≤ 20000
 few_lines s h =
-    let hs = map handler_line (enumerate_from 0 s.handlers) in
-    let gs = map gauge_line (enumerate_from 0 s.gauges) in
+    let hs = map handler_statement (enumerate_from 0 s.handlers) in
+    let gs = map gauge_statement (enumerate_from 0 s.gauges) in
     let rs = map rule_line s.rules in
     let bs = flat_map block_lines s.blocks in
     let e = say kind.End (s.end ∷ []) ∷ [] in
     let v = say kind.Vsync (s.period ∷ []) in
     let most = h.lines in
-    let whole : length (lines s) ≡ length (first_lines s ++ after_first s) = ap length (lines_parted s) in
-    let l1 = length-append (first_lines s) (after_first s) in
+    let whole : length (script_lines s) ≡ length (opening_lines s ++ after_first s) = ap length (lines_parted s) in
+    let l1 = length-append (opening_lines s) (after_first s) in
     let l2 = length-append hs (gs ++ v ∷ (rs ++ (bs ++ e))) in
     let l3 = length-append gs (v ∷ (rs ++ (bs ++ e))) in
     let l4 = length-append rs (bs ++ e) in

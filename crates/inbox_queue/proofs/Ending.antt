@@ -14,14 +14,14 @@ use Rattle.shared_queue.specs.Ends.{AreInOrder, HasCalls, AreNew}
 use Rattle.dash_script.specs.declared.script.Script.{Script}
 use Rattle.run_model.specs.Planned.{entries_by, history_of}
 use Rattle.run_model.specs.Control.{is_controlled, is_called_in_time, ends_halted, each_behind, AreReached}
-use Rattle.run_model.specs.Run.{setting_of}
+use Rattle.run_model.specs.Run.{record_setting}
 use Rattle.inbox_queue.specs.declared.parcel.Parcel.{Parcel}
 use Rattle.inbox_queue.specs.declared.main_queue.Place.{Place}
 use Rattle.inbox_queue.specs.declared.main_queue.Hands.{Hands}
 use Rattle.inbox_queue.specs.declared.run.InboxReport.{InboxReport}
-use Rattle.inbox_queue.specs.InboxRun.{AreOfBlocks, IsInboxRun, IsPostOrLook, posts_made, comes_first, moves_as_planned}
-use Rattle.inbox_queue.specs.MainQueue.{IsAt, threads_of, seen, AreSilent}
-use Rattle.inbox_queue.specs.Opened.{AreIdle, IsPlayed, IsKept}
+use Rattle.inbox_queue.specs.InboxRun.{AreOfBlocks, IsInboxRun, IsPostOrLook, posts_made, post_comes_first, moves_as_planned}
+use Rattle.inbox_queue.specs.MainQueue.{HandsAreAt, threads_of, seen, AreSilent}
+use Rattle.inbox_queue.specs.Opened.{AreIdle, IsInboxPlayed, IsKeptRecord}
 use Rattle.inbox_queue.specs.Turned.{Sender}
 use Rattle.inbox_queue.proofs.Keepings.{all_posters, count_all, in_order, whole, parted}
 
@@ -33,7 +33,7 @@ two_popped all one two a b looper controller p is q is' =
 -- what is new is open
 pub as_opened : (n : ℕ) (place : Place) (hands : Hands) (threads posters : List Sender) → posters ≡ all_posters threads hands.looper hands.controller → length posters ≡ n + 2 → AreNew place.queue posters
     → place.queue.constants ≡ record { home = place.pool; looper = 0; setting = record { main = true; lockstep = true; senders = n + 2 } } → hands.pass.home ≡ place.pool
-    → IsAt place hands × (threads_of hands ≡ n) × (place.queue.constants.looper ≡ 0) × AreIdle place.queue threads × (length threads ≡ n) × (seen hands ≡ [])
+    → HandsAreAt place hands × (threads_of hands ≡ n) × (place.queue.constants.looper ≡ 0) × AreIdle place.queue threads × (length threads ≡ n) × (seen hands ≡ [])
 as_opened n place hands threads posters are count new constants pass =
     let p = parted threads hands.looper hands.controller place.queue (subst (AreNew place.queue) are new) in
     let all : length (all_posters threads hands.looper hands.controller) ≡ n + 2 = ap length (sym are) ∙ count in
@@ -58,7 +58,7 @@ as_opened n place hands threads posters are count new constants pass =
     )
 
 -- all posters are in order at the end
-pub all_in_order : (place : Place) (hands : Hands) (threads : List Sender) → IsAt place hands → AreIdle place.queue threads → length threads ≡ threads_of hands
+pub all_in_order : (place : Place) (hands : Hands) (threads : List Sender) → HandsAreAt place hands → AreIdle place.queue threads → length threads ≡ threads_of hands
     → (length (all_posters threads hands.looper hands.controller) ≡ place.queue.constants.setting.senders) × AreInOrder place.queue (all_posters threads hands.looper hands.controller)
 all_in_order place hands threads at idle count = (
   (let all = count_all threads hands.looper hands.controller in let n : threads_of hands + 2 ≡ place.queue.constants.setting.senders = sym (ap (λ (s : Setting). s.senders) at.setting) in
@@ -67,10 +67,10 @@ all_in_order place hands threads at idle count = (
 )
 
 -- what is kept
-pub as_kept : (place : Place) (hands : Hands) (threads : List Sender) (r : QueueRecord) → IsAt place hands → AreIdle place.queue threads → length threads ≡ threads_of hands → place.queue.constants.looper ≡ 0
-    → r.looper ≡ place.queue.constants.looper → setting_of r ≡ place.queue.constants.setting → IsChainFrom (empty_base place.queue.constants.setting.senders) r.segments
+pub as_kept : (place : Place) (hands : Hands) (threads : List Sender) (r : QueueRecord) → HandsAreAt place hands → AreIdle place.queue threads → length threads ≡ threads_of hands → place.queue.constants.looper ≡ 0
+    → r.looper ≡ place.queue.constants.looper → record_setting r ≡ place.queue.constants.setting → IsChainFrom (empty_base place.queue.constants.setting.senders) r.segments
     → IsLegal place.queue.constants.setting (empty_base place.queue.constants.setting.senders) (history_of r) → AreNumbered place.queue.constants.setting (empty_base place.queue.constants.setting.senders) (history_of r)
-    → HasCalls (history_of r) (all_posters threads hands.looper hands.controller) → IsKept (threads_of hands) (seen hands) r
+    → HasCalls (history_of r) (all_posters threads hands.looper hands.controller) → IsKeptRecord (threads_of hands) (seen hands) r
 as_kept place hands threads r at idle count main looper set chain legal numbered calls =
     let key = place.queue.constants.setting in
     let n : key.senders ≡ threads_of hands + 2 = ap (λ (s : Setting). s.senders) at.setting in
@@ -87,13 +87,13 @@ as_kept place hands threads r at idle count main looper set chain legal numbered
     }
 
 -- the threads were silent to the end, so all was played
-pub all_played : (s : Script) (n : ℕ) (es : List Entry) (r : QueueRecord) (lists : List (List Parcel)) → n ≡ s.threads → IsKept n es r → (AreSilent s.threads es → IsPlayed s s.threads lists es) → IsKept s.threads es r × IsPlayed s s.threads lists es
+pub all_played : (s : Script) (n : ℕ) (es : List Entry) (r : QueueRecord) (lists : List (List Parcel)) → n ≡ s.threads → IsKeptRecord n es r → (AreSilent s.threads es → IsInboxPlayed s s.threads lists es) → IsKeptRecord s.threads es r × IsInboxPlayed s s.threads lists es
 all_played s n es r lists is kept played =
-    let own : IsKept s.threads es r = subst (λ k. IsKept k es r) is kept in
+    let own : IsKeptRecord s.threads es r = subst (λ k. IsKeptRecord k es r) is kept in
     (own, played (subst (AreSilent s.threads) own.whole own.silent))
 
 -- the report is an inbox run
-pub is_run : (s : Script) (report : InboxReport) (es : List Entry) → report.script ≡ s → AreOfBlocks s s.blocks report.admitted → IsKept s.threads es report.kept → IsPlayed s s.threads report.admitted es → IsInboxRun s report
+pub is_run : (s : Script) (report : InboxReport) (es : List Entry) → report.script ≡ s → AreOfBlocks s s.blocks report.admitted → IsKeptRecord s.threads es report.kept → IsInboxPlayed s s.threads report.admitted es → IsInboxRun s report
 is_run s report es is blocks kept played = record {
   script = is;
   looper = kept.looper;
@@ -105,7 +105,7 @@ is_run s report es is blocks kept played = record {
   admitted = blocks;
   posts = ap (posts_made s.threads) kept.whole ∙ played.posts;
   looks = subst (λ (l : List Entry). AllByRecursion (λ e. IsPostOrLook e.call) (entries_by s.threads l)) (sym kept.whole) played.ended.looks;
-  first = ap (λ l. each_behind comes_first [] l) kept.whole ∙ played.ended.first;
+  first = ap (λ l. each_behind post_comes_first [] l) kept.whole ∙ played.ended.first;
   planned = ap (λ l. each_behind (moves_as_planned s) [] l) kept.whole ∙ played.ended.planned;
   reached = subst (AreReached s.blocks) (sym kept.whole) played.reached;
   controlled = ap (λ l. is_controlled true true (s.threads + 1) s.end l) kept.whole ∙ played.ended.controlled;

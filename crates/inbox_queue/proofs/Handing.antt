@@ -16,7 +16,7 @@ use Rattle.inbox_queue.specs.declared.main_queue.Look.{Look}
 use Rattle.inbox_queue.specs.declared.main_queue.Look.TheVariants.{Taken, Waits, Other}
 use Rattle.inbox_queue.specs.declared.main_queue.Move.{Move}
 use Rattle.inbox_queue.specs.declared.main_queue.Move.TheVariants.{There, Stays, NoMemory}
-use Rattle.inbox_queue.specs.MainQueue.{IsAt, AreSameHands, threads_of, seen, AreSilent, GrowsBy, IsPostOf, IsHaltAt, LooksOn, MovesOn, time_of}
+use Rattle.inbox_queue.specs.MainQueue.{HandsAreAt, AreSameHands, threads_of, seen, AreSilent, GrowsByEntry, IsPostOf, IsHaltAt, LooksOn, MovesTime, time_after}
 use Rattle.inbox_queue.specs.Turned.{Sender, LookedBy, MovedBy, PostsBy}
 use Rattle.inbox_queue.proofs.TurnSteps.{State, Pair, looked, moved, halted, not_halted_over, not_halted_due, posted_one, goes_on_turn}
 use Rattle.inbox_queue.proofs.Driving.{Led}
@@ -62,7 +62,7 @@ kept_same a b t = record { table = t.table; sender = t.sender; constants = t.con
 kept_then : (a b c : Sender) → Kept a b → Kept b c → Kept a c
 kept_then a b c p q = record { table = q.table ∙ p.table; sender = q.sender ∙ p.sender; constants = q.constants ∙ p.constants; sealed = q.sealed ∙ p.sealed }
 
-at_kept : (place : Place) (h h' : Hands) → IsAt place h → Kept h.looper h'.looper → Kept h.controller h'.controller → h'.pass.home ≡ place.pool → h'.controller.view.seen ≡ seen h' → IsAt place h'
+at_kept : (place : Place) (h h' : Hands) → HandsAreAt place h → Kept h.looper h'.looper → Kept h.controller h'.controller → h'.pass.home ≡ place.pool → h'.controller.view.seen ≡ seen h' → HandsAreAt place h'
 at_kept place h h' at l c pass same = record {
   looper = (l.table ∙ at.looper.0, l.constants ∙ at.looper.1);
   controller = (c.table ∙ at.controller.0, c.constants ∙ at.controller.1);
@@ -84,7 +84,7 @@ one_of_both threads k lt = dite (dec_lt k threads) (λ below. inl below) (λ not
 
 -- what the looper's call and the hearing leave
 pub record LooperCalls (place : Place) (h h1 h2 : Hands) : Type 0 where
-  pub at : IsAt place h
+  pub at : HandsAreAt place h
   pub kept : (h1.controller ≡ h.controller) × (h1.pass.home ≡ place.pool)
   pub same : AreSameHands h1 h2
   pub heard : IsPrefix h1.controller.view.seen (seen h1) → (seen h2 ≡ seen h1) × (h2.controller.view.seen ≡ seen h1)
@@ -104,7 +104,7 @@ module _ (place : Place) (h h1 h2 : Hands) (k : LooperCalls place h h1 h2) (x y 
     who = λ n lt. ⊎_elim (λ a. inl a) (λ b. inr (⊎_elim (λ c. inl c) (λ d. inr (d ∙ sym k.at.number)) b)) (one_of_all (threads_of h) n lt);
   }
 
-  pub looper_at : IsAt place h2 × (threads_of h2 ≡ threads_of h)
+  pub looper_at : HandsAreAt place h2 × (threads_of h2 ≡ threads_of h)
   looper_at =
       let l = kept_then h.looper h1.looper h2.looper (kept_turn h.looper h1.looper x y turn) (kept_same h1.looper h2.looper k.same.0) in
       let c = kept_same h.controller h2.controller (subst (λ c. IsSamePoster c h2.controller) k.kept.0 k.same.1) in
@@ -123,7 +123,7 @@ turn_of_look a b Other (inr (inl h)) = (h.1.0, h.1.1, h.1.2)
 turn_of_look a b Other (inr (inr h)) = (h.0, h.1, h.2)
 
 pub look_done : (place : Place) (h h1 h2 : Hands) (look : Look) → LooperCalls place h h1 h2 → LookedBy h.looper h1.looper look
-    → (IsAt place h2 × (threads_of h2 ≡ threads_of h)) × Led (threads_of h) (LooksOn (threads_of h) look) (seen h) (seen h2)
+    → (HandsAreAt place h2 × (threads_of h2 ≡ threads_of h)) × Led (threads_of h) (LooksOn (threads_of h) look) (seen h) (seen h2)
 look_done place h h1 h2 look k done =
     let t = turn_of_look h.looper h1.looper look done in (
       looper_at place h h1 h2 k t.0 t.1 t.2,
@@ -134,17 +134,17 @@ turn_of_post : (post : PostData) (a b : Sender) → PostsBy post a b → (x : St
 turn_of_post post a b h = ⊎_elim (λ p. (p.2.0, p.2.1, p.2.2)) (λ p. (p.1.0, p.1.1, p.1.2)) h.2
 
 pub post_done : (place : Place) (h h1 h2 : Hands) (post : PostData) → LooperCalls place h h1 h2 → PostsBy post h.looper h1.looper
-    → (IsAt place h2 × (threads_of h2 ≡ threads_of h)) × Led (threads_of h) (GrowsBy (threads_of h) (IsPostOf post)) (seen h) (seen h2)
+    → (HandsAreAt place h2 × (threads_of h2 ≡ threads_of h)) × Led (threads_of h) (GrowsByEntry (threads_of h) (IsPostOf post)) (seen h) (seen h2)
 post_done place h h1 h2 post k done =
     let t = turn_of_post post h.looper h1.looper done in (
       looper_at place h h1 h2 k t.0 t.1 t.2,
-      looper_led place h h1 h2 k t.0 t.1 t.2 (GrowsBy (threads_of h) (IsPostOf post)) (posted_one (threads_of h) h.looper h1.looper h.controller h2.controller (looper_pair place h h1 h2 k t.0 t.1 t.2) post done),
+      looper_led place h h1 h2 k t.0 t.1 t.2 (GrowsByEntry (threads_of h) (IsPostOf post)) (posted_one (threads_of h) h.looper h1.looper h.controller h2.controller (looper_pair place h h1 h2 k t.0 t.1 t.2) post done),
     )
 
 -- ---- the controller's call
 
 pub record ControllerCalls (place : Place) (h h1 h2 : Hands) : Type 0 where
-  pub at : IsAt place h
+  pub at : HandsAreAt place h
   pub kept : (h1.looper ≡ h.looper) × (h1.pass ≡ h.pass)
   pub same : AreSameHands h1 h2
   pub heard : IsPrefix (seen h1) h1.controller.view.seen → (seen h2 ≡ h1.controller.view.seen) × (h2.controller.view.seen ≡ h1.controller.view.seen)
@@ -164,7 +164,7 @@ module _ (place : Place) (h h1 h2 : Hands) (k : ControllerCalls place h h1 h2) (
     who = λ n lt. ⊎_elim (λ a. inl a) (λ b. inr (⊎_elim (λ c. inl (c ∙ sym k.at.number)) (λ d. inr d) b)) (one_of_both (threads_of h) n lt);
   }
 
-  pub controller_at : IsAt place h2 × (threads_of h2 ≡ threads_of h)
+  pub controller_at : HandsAreAt place h2 × (threads_of h2 ≡ threads_of h)
   controller_at =
       let l = kept_same h.looper h2.looper (subst (λ c. IsSamePoster c h2.looper) k.kept.0 k.same.0) in
       let c = kept_then h.controller h1.controller h2.controller (kept_turn h.controller h1.controller x y turn) (kept_same h1.controller h2.controller k.same.1) in
@@ -182,23 +182,23 @@ turn_of_move a b time Stays (inr h) = (h.1.0, h.1.1, h.1.2)
 turn_of_move a b time NoMemory h = (h.0, h.1, h.2)
 
 pub move_done : (place : Place) (h h1 h2 : Hands) (time : ℕ) (move : Move) → ControllerCalls place h h1 h2 → MovedBy h.controller h1.controller time move
-    → (IsAt place h2 × (threads_of h2 ≡ threads_of h)) × Led (threads_of h) (MovesOn (threads_of h) time move) (seen h) (seen h2)
+    → (HandsAreAt place h2 × (threads_of h2 ≡ threads_of h)) × Led (threads_of h) (MovesTime (threads_of h) time move) (seen h) (seen h2)
 move_done place h h1 h2 time move k done =
     let t = turn_of_move h.controller h1.controller time move done in (
       controller_at place h h1 h2 k t.0 t.1 t.2,
-      controller_led place h h1 h2 k t.0 t.1 t.2 (MovesOn (threads_of h) time move) (moved (threads_of h) h.controller h1.controller h.looper h2.looper (controller_pair place h h1 h2 k t.0 t.1 t.2) k.at.number time move done),
+      controller_led place h h1 h2 k t.0 t.1 t.2 (MovesTime (threads_of h) time move) (moved (threads_of h) h.controller h1.controller h.looper h2.looper (controller_pair place h h1 h2 k t.0 t.1 t.2) k.at.number time move done),
     )
 
 pub halt_done : (place : Place) (h h1 h2 : Hands) (time : ℕ) → ControllerCalls place h h1 h2 → HaltedBy h.controller h1.controller time halting.Halted
-    → (IsAt place h2 × (threads_of h2 ≡ threads_of h)) × Led (threads_of h) (λ past now. GrowsBy (threads_of h + 1) (IsHaltAt (time_of past)) past now) (seen h) (seen h2)
+    → (HandsAreAt place h2 × (threads_of h2 ≡ threads_of h)) × Led (threads_of h) (λ past now. GrowsByEntry (threads_of h + 1) (IsHaltAt (time_after past)) past now) (seen h) (seen h2)
 halt_done place h h1 h2 time k done = (
   controller_at place h h1 h2 k done.0 done.1 done.2,
-  controller_led place h h1 h2 k done.0 done.1 done.2 (λ past now. GrowsBy (threads_of h + 1) (IsHaltAt (time_of past)) past now)
+  controller_led place h h1 h2 k done.0 done.1 done.2 (λ past now. GrowsByEntry (threads_of h + 1) (IsHaltAt (time_after past)) past now)
       (halted (threads_of h) h.controller h1.controller h.looper h2.looper (controller_pair place h h1 h2 k done.0 done.1 done.2) k.at.number time done),
 )
 
 pub halt_over : (place : Place) (h h1 h2 : Hands) (time : ℕ) → ControllerCalls place h h1 h2 → HaltedBy h.controller h1.controller time halting.Over
-    → (IsAt place h2 × (threads_of h2 ≡ threads_of h)) × Led (threads_of h) (λ past now. now ≡ past) (seen h) (seen h2)
+    → (HandsAreAt place h2 × (threads_of h2 ≡ threads_of h)) × Led (threads_of h) (λ past now. now ≡ past) (seen h) (seen h2)
 halt_over place h h1 h2 time k done = (
   controller_at place h h1 h2 k done.0 done.1 done.2,
   controller_led place h h1 h2 k done.0 done.1 done.2 (λ past now. now ≡ past)
@@ -206,7 +206,7 @@ halt_over place h h1 h2 time k done = (
 )
 
 pub halt_due : (place : Place) (h h1 h2 : Hands) (time n : ℕ) → ControllerCalls place h h1 h2 → HaltedBy h.controller h1.controller time (halting.NotDrained n)
-    → (IsAt place h2 × (threads_of h2 ≡ threads_of h)) × Led (threads_of h) (λ past now. now ≡ past) (seen h) (seen h2)
+    → (HandsAreAt place h2 × (threads_of h2 ≡ threads_of h)) × Led (threads_of h) (λ past now. now ≡ past) (seen h) (seen h2)
 halt_due place h h1 h2 time n k done = (
   controller_at place h h1 h2 k done.0 done.1 done.2,
   controller_led place h h1 h2 k done.0 done.1 done.2 (λ past now. now ≡ past)

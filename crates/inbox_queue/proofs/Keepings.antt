@@ -14,7 +14,7 @@ use Rattle.loop_model.specs.declared.segment.Segment.{Segment}
 use Rattle.loop_model.specs.Answers.{Setting}
 use Rattle.loop_model.specs.Legal.{AreNumbered}
 use Rattle.shared_queue.specs.Constants.{made_in}
-use Rattle.shared_queue.specs.Known.{Shared, IsOf, made_by}
+use Rattle.shared_queue.specs.Known.{Shared, IsOf, own_count}
 use Rattle.shared_queue.specs.Ends.{AreInOrder, HasCalls, HaveSealed, AreNew}
 use Rattle.run_model.specs.Planned.{entries_by}
 use Rattle.inbox_queue.specs.Turned.{Sender}
@@ -75,7 +75,7 @@ module _ (threads : List Sender) (looper controller : Sender) where
       all = all_posters threads looper controller
 
       Has : Sender → Type 0
-      Has p = IsPrefix p.view.seen entries × (made_in p.sender entries ≡ made_by p)
+      Has p = IsPrefix p.view.seen entries × (made_in p.sender entries ≡ own_count p)
 
       looper_sees : Has looper
       looper_sees = subst Has (at_looper (length threads) looper refl) (calls (length threads) looper (let lt : length threads < length all = omega (arith, count_all) in lt))
@@ -101,7 +101,7 @@ module _ (threads : List Sender) (looper controller : Sender) where
   parted queue new = (
     (λ k d lt. let lt' : k < length (all_posters threads looper controller) = omega (arith, count_all, lt) in
         let i = new.0 k d lt' in let m = new.1 k d lt' in
-        subst (λ (p : Sender). IsOf p queue × (p.sender ≡ k) × (made_by p ≡ 0)) (at_thread k d lt) (i.0, i.1, m.made)),
+        subst (λ (p : Sender). IsOf p queue × (p.sender ≡ k) × (own_count p ≡ 0)) (at_thread k d lt) (i.0, i.1, m.made)),
     (let lt' : length threads < length (all_posters threads looper controller) = omega (arith, count_all) in
         let i = new.0 (length threads) looper lt' in let m = new.1 (length threads) looper lt' in
         subst (λ (p : Sender). IsOf p queue × (p.sender ≡ length threads) × (p.view.seen ≡ [])) (at_looper (length threads) looper refl) (i.0, i.1, m.seen)),

@@ -7,7 +7,7 @@ use Rattle.std.proofs.lemmas.Bool.Decides.{nat_tests}
 use Rattle.dash_script.specs.declared.script.Script.{Script}
 use Rattle.dash_script.specs.declared.statement.Statement.{Statement}
 use Rattle.dash_script.specs.declared.form.Kind.TheVariants as kind
-use Rattle.dash_script.specs.Text.{lines, lines_before_end, say}
+use Rattle.dash_script.specs.Text.{script_lines, lines_before_end, say}
 use Rattle.dash_script.specs.Causes.{numbers_pass, is_within, each_number}
 use Rattle.dash_script.specs.Reading.{HasText}
 
@@ -24,6 +24,6 @@ third p a b c rest h = (and_parts _ _ (and_parts _ _ (and_parts _ _ h).1).1).0
 pub threads : (s : Script) → HasText s → (0 < s.threads) × (s.threads ≤ 16)
 unfolding lines_before_end each_number
 threads s h =
-    let t = third (numbers_pass (is_within s)) (say (if s.edition == 2 then kind.Edition2 else kind.Edition1) []) (say kind.Loopers (s.loopers ∷ [])) (say kind.Threads (s.threads ∷ [])) (drop 3 (lines s)) h.limits in
+    let t = third (numbers_pass (is_within s)) (say (if s.edition == 2 then kind.Edition2 else kind.Edition1) []) (say kind.Loopers (s.loopers ∷ [])) (say kind.Threads (s.threads ∷ [])) (drop 3 (script_lines s)) h.limits in
     let low : 1 ≤ s.threads = at_least 1 16 s.threads t in
     ((let r : 0 < s.threads = omega (arith, low) in r), between 1 16 s.threads t)

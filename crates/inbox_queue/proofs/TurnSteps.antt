@@ -37,7 +37,7 @@ use Rattle.inbox_queue.specs.declared.main_queue.Look.{Look}
 use Rattle.inbox_queue.specs.declared.main_queue.Look.TheVariants.{Taken, Waits, Other}
 use Rattle.inbox_queue.specs.declared.main_queue.Move.{Move}
 use Rattle.inbox_queue.specs.declared.main_queue.Move.TheVariants.{There, Stays, NoMemory}
-use Rattle.inbox_queue.specs.MainQueue.{AreSilent, time_of, GrowsBy, IsLookAt, IsHaltAt, IsPostOf, LooksOn, MovesOn}
+use Rattle.inbox_queue.specs.MainQueue.{AreSilent, time_after, GrowsByEntry, IsLookEntry, IsHaltAt, IsPostOf, LooksOn, MovesTime}
 use Rattle.inbox_queue.specs.Turned.{Sender, LookedBy, MovedBy, PostsBy}
 use Rattle.inbox_queue.proofs.Silence.{found_is, silent_before}
 
@@ -118,11 +118,11 @@ module _ {threads : ℕ} {one one' other other' : Sender} {x y : State} (c : Cal
       )
 
   -- the time that it found
-  pub time_found : x.entries ≡ one.view.seen → queue.time_of x ≡ time_of one.view.seen
+  pub time_found : x.entries ≡ one.view.seen → queue.time_of x ≡ time_after one.view.seen
   time_found is = subst (λ (z : Base × List Entry). clock x.start x.entries ≡ clock z.0 z.1) (λ i. (start_is i, is i)) refl ∙ clock_same (threads + 2) one.view.seen
 
-  pub moment_found : (now : ℕ) → x.entries ≡ one.view.seen → moment_at x now ≡ time_of one.view.seen
-  moment_found now is = subst (λ (s : Setting). (if s.lockstep then queue.time_of x else max now (queue.time_of x)) ≡ time_of one.view.seen) (sym setting_is) (time_found is)
+  pub moment_found : (now : ℕ) → x.entries ≡ one.view.seen → moment_at x now ≡ time_after one.view.seen
+  moment_found now is = subst (λ (s : Setting). (if s.lockstep then queue.time_of x else max now (queue.time_of x)) ≡ time_after one.view.seen) (sym setting_is) (time_found is)
 
   -- it left what it found with one entry more
   pub entry_more : (call : Call) (reply : Reply) → y.entries ≡ x.entries ++ entry_of x one.sender call reply ∷ [] → x.entries ≡ one.view.seen → one'.view.seen ≡ one.view.seen ++ entry_of x one.sender call reply ∷ []
@@ -160,7 +160,7 @@ module _ (threads : ℕ) (one one' other other' : Sender) (p : Pair threads one 
   abbrev Now : (List Entry → List Entry → Type 0) → Type 0
   Now R = AreSilent threads one'.view.seen → AreSilent threads one.view.seen × R one.view.seen one'.view.seen
 
-  a_look : (x y : State) (call : Call) (reply : Reply) (at : ℕ) → IsTurn one one' x y → y.entries ≡ x.entries ++ entry_of x one.sender call reply ∷ [] → call ≡ Next at → at ≡ moment_at x 0 → Now (λ past now. GrowsBy one.sender (IsLookAt (time_of past)) past now)
+  a_look : (x y : State) (call : Call) (reply : Reply) (at : ℕ) → IsTurn one one' x y → y.entries ≡ x.entries ++ entry_of x one.sender call reply ∷ [] → call ≡ Next at → at ≡ moment_at x 0 → Now (λ past now. GrowsByEntry one.sender (IsLookEntry (time_after past)) past now)
   a_look x y call reply at turn is next moment silent =
       let c = calls x y p turn in let f = found c silent in
       (f.0, (entry_of x one.sender call reply, entry_more c call reply is f.1, refl, next ∙ ap Next (moment ∙ moment_found c 0 f.1)))
@@ -180,7 +180,7 @@ module _ (threads : ℕ) (one one' other other' : Sender) (p : Pair threads one 
       let r = a_look n.0 n.1 (Next (moment_at n.0 0)) Disposed (moment_at n.0 0) n.2 (ap (λ (q : State). q.entries) n.3.2) refl refl silent in (r.0, inr r.1)
   looked Other (inr (inr h)) silent = let r = nothing h.0 h.1 h.2 (ap (λ (q : State). q.entries) h.3.1) silent in (r.0, inl r.1)
 
-  pub moved : one.sender ≡ threads + 1 → (time : ℕ) (result : Move) → MovedBy one one' time result → Now (MovesOn threads time result)
+  pub moved : one.sender ≡ threads + 1 → (time : ℕ) (result : Move) → MovedBy one one' time result → Now (MovesTime threads time result)
   moved own time There (inl h) silent =
       let c = calls h.0 h.1 p h.2 in let f = found c silent in
       let e : Entry = entry_of h.0 one.sender (Advance time) Advanced in
@@ -192,7 +192,7 @@ module _ (threads : ℕ) (one one' other other' : Sender) (p : Pair threads one 
   moved own time Stays (inr h) silent = let n = h.1 in nothing n.0 n.1 n.2 (ap (λ (q : State). q.entries) n.3.3) silent
   moved own time NoMemory h silent = nothing h.0 h.1 h.2 (ap (λ (q : State). q.entries) h.3) silent
 
-  pub halted : one.sender ≡ threads + 1 → (time : ℕ) → HaltedBy one one' time halting.Halted → Now (λ past now. GrowsBy (threads + 1) (IsHaltAt (time_of past)) past now)
+  pub halted : one.sender ≡ threads + 1 → (time : ℕ) → HaltedBy one one' time halting.Halted → Now (λ past now. GrowsByEntry (threads + 1) (IsHaltAt (time_after past)) past now)
   halted own time h silent =
       let c = calls h.0 h.1 p h.2 in let f = found c silent in
       let at = moment_at h.0 time in
@@ -204,13 +204,13 @@ module _ (threads : ℕ) (one one' other other' : Sender) (p : Pair threads one 
   pub not_halted_due : (time n : ℕ) → HaltedBy one one' time (halting.NotDrained n) → Now (λ past now. now ≡ past)
   not_halted_due time n h = nothing h.0 h.1 h.2 (ap (λ (q : State). q.entries) h.3.2)
 
-  pub posted_one : (post : PostData) → PostsBy post one one' → Now (λ past now. GrowsBy one.sender (IsPostOf post) past now)
+  pub posted_one : (post : PostData) → PostsBy post one one' → Now (λ past now. GrowsByEntry one.sender (IsPostOf post) past now)
   posted_one post h = go h.2
     where
-      made : (x y : State) (reply : Reply) → IsTurn one one' x y → y.entries ≡ x.entries ++ entry_of x one.sender (Post (post_of h.0.item)) reply ∷ [] → Now (λ past now. GrowsBy one.sender (IsPostOf post) past now)
+      made : (x y : State) (reply : Reply) → IsTurn one one' x y → y.entries ≡ x.entries ++ entry_of x one.sender (Post (post_of h.0.item)) reply ∷ [] → Now (λ past now. GrowsByEntry one.sender (IsPostOf post) past now)
       made x y reply turn is silent = let c = calls x y p turn in let f = found c silent in
           (f.0, (entry_of x one.sender (Post (post_of h.0.item)) reply, entry_more c (Post (post_of h.0.item)) reply is f.1, refl, (post_of h.0.item, refl, h.1)))
 
-      go : (((n : ℕ) × (wake : Bool) × PostedBy one one' h.0 (posted.Accepted n wake)) ⊎ ((place : ℕ) × PostedBy one one' h.0 (posted.Refused place h.0))) → Now (λ past now. GrowsBy one.sender (IsPostOf post) past now)
+      go : (((n : ℕ) × (wake : Bool) × PostedBy one one' h.0 (posted.Accepted n wake)) ⊎ ((place : ℕ) × PostedBy one one' h.0 (posted.Refused place h.0))) → Now (λ past now. GrowsByEntry one.sender (IsPostOf post) past now)
       go (inl a) = let n = a.2 in made n.0 n.1 (Accepted a.0) n.2 (ap (λ (q : State). q.entries) n.3.2)
       go (inr r) = let n = r.1 in made n.0 n.1 (Refused r.0) n.2 (ap (λ (q : State). q.entries) n.3.2)

@@ -5,7 +5,7 @@ use Rattle.dash_script.specs.declared.form.Kind.{Kind}
 use Rattle.dash_script.specs.declared.form.Kind.TheVariants as kind
 use Rattle.dash_script.specs.declared.script.Script.{Script}
 use Rattle.dash_script.specs.declared.statement.Statement.{Statement}
-use Rattle.dash_script.specs.Text.{lines}
+use Rattle.dash_script.specs.Text.{script_lines}
 
 -- it is a gauge or a reaction, or a command that is no post of a message or a callback, or names more than one looper
 abbrev pub is_bad_of : Kind → List ℕ → Bool
@@ -29,4 +29,4 @@ is_bad line = is_bad_of line.kind line.numbers
 
 -- the number of the least such line of the script's text, counted from 1
 abbrev pub bad_line : Script → Option ℕ
-bad_line s = position_from is_bad 1 (lines s)
+bad_line s = position_from is_bad 1 (script_lines s)

@@ -20,7 +20,7 @@ abbrev pub inbox_id_coded : Coded InboxId
 inbox_id_coded = coded× coded_ℕ coded_ℕ
 
 -- a sender: its inbox, its number, and the posts that it put, in order
-pub record Sending : Type 0 where
+pub record PutPosts : Type 0 where
   pub inbox : InboxId
   pub number : ℕ
   pub put : List Post
@@ -32,31 +32,32 @@ pub record Admitting : Type 0 where
   pub admitted : List Parcel
 
 -- a sender of this number that has put nothing
-abbrev pub IsNewSender : InboxId → ℕ → Sending → Type 0
+abbrev pub IsNewSender : InboxId → ℕ → PutPosts → Type 0
 IsNewSender inbox number s = (s.inbox ≡ inbox) × (s.number ≡ number) × (s.put ≡ [])
 
 -- the first senders, in order
-abbrev pub AreNewSenders : InboxId → List Sending → Type 0
-AreNewSenders inbox senders = (k : ℕ) (d : Sending) → k < length senders → IsNewSender inbox k (slice_index_or senders k d)
+abbrev pub AreNewSenders : InboxId → List PutPosts → Type 0
+AreNewSenders inbox senders = (k : ℕ) (d : PutPosts) → k < length senders → IsNewSender inbox k (slice_index_or senders k d)
 
 -- so many senders, the first ones
-abbrev pub AreManyNew : InboxId → ℕ → List Sending → Type 0
+abbrev pub AreManyNew : InboxId → ℕ → List PutPosts → Type 0
 AreManyNew inbox count senders = (length senders ≡ count) × AreNewSenders inbox senders
 
 -- the senders of an inbox, in the order of their numbers
-abbrev pub AreSenders : InboxId → List Sending → Type 0
-AreSenders inbox senders = (k : ℕ) (d : Sending) → k < length senders → ((slice_index_or senders k d).inbox ≡ inbox) × ((slice_index_or senders k d).number ≡ k)
+abbrev pub AreInboxSenders : InboxId → List PutPosts → Type 0
+AreInboxSenders inbox senders =
+    (k : ℕ) (d : PutPosts) → k < length senders → ((slice_index_or senders k d).inbox ≡ inbox) × ((slice_index_or senders k d).number ≡ k)
 
 -- an admitter of so many senders, each of which still puts, that has admitted nothing
 abbrev pub IsNewAdmitter : InboxId → ℕ → Admitting → Type 0
 IsNewAdmitter inbox senders a = (a.inbox ≡ inbox) × (a.taken ≡ replicate senders None) × (a.admitted ≡ [])
 
 -- the sender after it put one post more
-abbrev pub with_post : Sending → Post → Sending
+abbrev pub with_post : PutPosts → Post → PutPosts
 with_post s post = record s { put = s.put ++ post ∷ [] }
 
 -- the admitter after it took this sender in
-abbrev pub with_sender : Admitting → Sending → Admitting
+abbrev pub with_sender : Admitting → PutPosts → Admitting
 with_sender a s = record a { taken = slice_set a.taken s.number (Some s.put) }
 
 -- the admitter after it admitted one parcel more

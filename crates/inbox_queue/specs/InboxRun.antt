@@ -18,7 +18,7 @@ use Rattle.dash_script.specs.declared.script.Block.{Block}
 use Rattle.dash_script.specs.declared.script.Script.{Script}
 use Rattle.run_model.specs.Planned.{history_of, entries_by}
 use Rattle.run_model.specs.Control.{is_advance, is_controlled, is_called_in_time, ends_halted, each_behind, is_planned_time, is_fresh, AreReached}
-use Rattle.run_model.specs.Run.{setting_of}
+use Rattle.run_model.specs.Run.{record_setting}
 use Rattle.inbox_queue.specs.declared.parcel.Parcel.{Parcel}
 use Rattle.inbox_queue.specs.declared.run.InboxReport.{InboxReport}
 use Rattle.inbox_queue.specs.Plans.{planned_posts, parcels_of, from_sender}
@@ -78,8 +78,8 @@ abbrev pub is_posting : Entry → Bool
 is_posting e = is_post e.call
 
 -- no post; or one before which only posts have come since the time was last moved
-abbrev pub comes_first : List Entry → Entry → Bool
-comes_first past e = not (is_posting e) || is_fresh is_posting past
+abbrev pub post_comes_first : List Entry → Entry → Bool
+post_comes_first past e = not (is_posting e) || is_fresh is_posting past
 
 -- the message, if there is one, is due at this time
 abbrev pub is_due_at : ℕ → Option Item → Bool
@@ -96,11 +96,11 @@ pub record IsInboxRun (s : Script) (r : InboxReport) : Type 0 where
   -- the record is that of the main looper, in lockstep, with a sender for each thread, one for the looper and one for the controller; its history is one of a
   -- queue of one thread
   pub looper : r.kept.looper ≡ 0
-  pub setting : setting_of r.kept ≡ record { main = true; lockstep = true; senders = s.threads + 2 }
+  pub setting : record_setting r.kept ≡ record { main = true; lockstep = true; senders = s.threads + 2 }
   -- its parts are a chain: each starts from what the one before it left
   pub chain : IsChainFrom (empty_base r.kept.senders) r.kept.segments
-  pub legal : IsLegal (setting_of r.kept) (empty_base r.kept.senders) (history_of r.kept)
-  pub numbered : AreNumbered (setting_of r.kept) (empty_base r.kept.senders) (history_of r.kept)
+  pub legal : IsLegal (record_setting r.kept) (empty_base r.kept.senders) (history_of r.kept)
+  pub numbered : AreNumbered (record_setting r.kept) (empty_base r.kept.senders) (history_of r.kept)
   -- no thread has an entry
   pub threads : (thread : ℕ) → thread < s.threads → entries_by thread (history_of r.kept) ≡ []
   -- what was admitted is what the threads' lines plan
@@ -109,7 +109,7 @@ pub record IsInboxRun (s : Script) (r : InboxReport) : Type 0 where
   pub posts : posts_made s.threads (history_of r.kept) ≡ posts_admitted s.blocks r.admitted
   pub looks : AllByRecursion (λ e. IsPostOrLook e.call) (entries_by s.threads (history_of r.kept))
   -- the looper posts what a block brings before it looks for a message at that time
-  pub first : each_behind comes_first [] (history_of r.kept) ≡ true
+  pub first : each_behind post_comes_first [] (history_of r.kept) ≡ true
   -- each move goes to the time of a block, to the end, or to when the first message that might then be dispatched is due
   pub planned : each_behind (moves_as_planned s) [] (history_of r.kept) ≡ true
   -- no block is left out, also one without lines: the time is moved to that of each, but for one at the start

@@ -22,7 +22,7 @@ use Rattle.inbox_queue.specs.declared.main_queue.Look.{Look}
 use Rattle.inbox_queue.specs.declared.main_queue.Look.TheVariants.{Taken, Waits, Other}
 use Rattle.inbox_queue.specs.declared.main_queue.Move.{Move}
 use Rattle.inbox_queue.specs.declared.main_queue.Move.TheVariants.{There, Stays, NoMemory}
-use Rattle.inbox_queue.specs.InboxRun.{unslotted, IsPostOrLook, posts_made, posts_at, is_posting, comes_first, moves_as_planned}
+use Rattle.inbox_queue.specs.InboxRun.{unslotted, IsPostOrLook, posts_made, posts_at, is_posting, post_comes_first, moves_as_planned}
 
 -- how many threads there are: their senders' numbers are below that of the looper
 abbrev pub threads_of : Hands → ℕ
@@ -34,7 +34,7 @@ seen h = h.looper.view.seen
 
 -- the posters are the looper's and the controller's, of the main looper's queue in lockstep, and the pass is of its pool; both have seen the same, and the
 -- history stands in one part
-pub record IsAt (place : Place) (h : Hands) : Type 0 where
+pub record HandsAreAt (place : Place) (h : Hands) : Type 0 where
   pub looper : IsOf h.looper place.queue
   pub controller : IsOf h.controller place.queue
   pub number : h.controller.sender ≡ threads_of h + 1
@@ -45,8 +45,8 @@ pub record IsAt (place : Place) (h : Hands) : Type 0 where
   pub whole : h.controller.view.sealed ≡ []
 
 -- where one had seen no more than the other, both have now seen what the other had
-abbrev pub HaveHeard : List Entry → List Entry → List Entry → List Entry → Type 0
-HaveHeard less more looper controller = IsPrefix less more → (looper ≡ more) × (controller ≡ more)
+abbrev pub HeardEachOther : List Entry → List Entry → List Entry → List Entry → Type 0
+HeardEachOther less more looper controller = IsPrefix less more → (looper ≡ more) × (controller ≡ more)
 
 -- the controller is as before, and the looper and the pass are still those of this place
 abbrev pub IsSameButLooper : Place → Hands → Hands → Type 0
@@ -63,20 +63,20 @@ abbrev pub AreSilent : ℕ → List Entry → Type 0
 AreSilent threads es = (k : ℕ) → k < threads → entries_by k es ≡ []
 
 -- the time of such a history
-abbrev pub time_of : List Entry → ℕ
-time_of es = clock (empty_base 0) es
+abbrev pub time_after : List Entry → ℕ
+time_after es = clock (empty_base 0) es
 
 -- where no thread has an entry now, none had one before, and this holds of the two histories
 abbrev pub Leads : (List Entry → List Entry → Type 0) → Hands → Hands → Type 0
 Leads R before after = AreSilent (threads_of before) (seen after) → AreSilent (threads_of before) (seen before) × R (seen before) (seen after)
 
 -- one more entry of this sender, by a call of this kind
-abbrev pub GrowsBy : ℕ → (Entry → Type 0) → List Entry → List Entry → Type 0
-GrowsBy sender Is past now = (e : Entry) × (now ≡ past ++ e ∷ []) × (e.sender ≡ sender) × Is e
+abbrev pub GrowsByEntry : ℕ → (Entry → Type 0) → List Entry → List Entry → Type 0
+GrowsByEntry sender Is past now = (e : Entry) × (now ≡ past ++ e ∷ []) × (e.sender ≡ sender) × Is e
 
 -- a look at this time
-abbrev pub IsLookAt : ℕ → Entry → Type 0
-IsLookAt time e = e.call ≡ Next time
+abbrev pub IsLookEntry : ℕ → Entry → Type 0
+IsLookEntry time e = e.call ≡ Next time
 
 abbrev pub IsMoveTo : ℕ → Entry → Type 0
 IsMoveTo time e = (e.call ≡ Advance time) × (e.reply ≡ Advanced)
@@ -89,16 +89,17 @@ IsPostOf p e = (q : PostData) × (e.call ≡ Post q) × (unslotted q ≡ unslott
 
 -- a look of the looper, by its answer
 abbrev pub LooksOn : ℕ → Look → List Entry → List Entry → Type 0
-LooksOn threads Taken past now = GrowsBy threads (IsLookAt (time_of past)) past now
+LooksOn threads Taken past now = GrowsByEntry threads (IsLookEntry (time_after past)) past now
 LooksOn threads (Waits until) past now =
     (now ≡ past) × (until ≡ option_map when_of (first_eligible (empty_base 0) past)) × (quit_place (empty_base 0) past ≡ None)
-LooksOn threads Other past now = (now ≡ past) ⊎ GrowsBy threads (IsLookAt (time_of past)) past now
+LooksOn threads Other past now = (now ≡ past) ⊎ GrowsByEntry threads (IsLookEntry (time_after past)) past now
 
 -- a move of the time by the controller, by its answer
-abbrev pub MovesOn : ℕ → ℕ → Move → List Entry → List Entry → Type 0
-MovesOn threads time There past now = ((now ≡ past) × (time ≤ time_of past)) ⊎ (GrowsBy (threads + 1) (IsMoveTo time) past now × (time_of past < time))
-MovesOn threads time Stays past now = now ≡ past
-MovesOn threads time NoMemory past now = now ≡ past
+abbrev pub MovesTime : ℕ → ℕ → Move → List Entry → List Entry → Type 0
+MovesTime threads time There past now =
+    ((now ≡ past) × (time ≤ time_after past)) ⊎ (GrowsByEntry (threads + 1) (IsMoveTo time) past now × (time_after past < time))
+MovesTime threads time Stays past now = now ≡ past
+MovesTime threads time NoMemory past now = now ≡ past
 
 -- the looper's calls are posts and looks, and the controller's moves of the time, none past the end, nor past a message that may be dispatched; each move is
 -- planned, and posts come first at their time
@@ -106,68 +107,68 @@ pub record Goes (threads : ℕ) (s : Script) (es : List Entry) : Type 0 where
   pub looks : AllByRecursion (λ e. IsPostOrLook e.call) (entries_by threads es)
   pub moves : AllByRecursion (λ e. (is_advance e.call ≡ true) × (moment_of e.call ≤ s.end)) (entries_by (threads + 1) es)
   pub timely : is_called_in_time (threads + 1) es ≡ true
-  pub first : each_behind comes_first [] es ≡ true
+  pub first : each_behind post_comes_first [] es ≡ true
   pub planned : each_behind (moves_as_planned s) [] es ≡ true
 
 -- the looper waits for the first message that may be dispatched, if there is one
-abbrev pub WaitsFor : Option ℕ → List Entry → Type 0
-WaitsFor until es = (until ≡ option_map when_of (first_eligible (empty_base 0) es)) × (quit_place (empty_base 0) es ≡ None)
+abbrev pub WaitsForFirst : Option ℕ → List Entry → Type 0
+WaitsForFirst until es = (until ≡ option_map when_of (first_eligible (empty_base 0) es)) × (quit_place (empty_base 0) es ≡ None)
 
 -- each time that was reached stays so
 abbrev pub KeepsReached : List Entry → List Entry → Type 0
 KeepsReached past now = (time : ℕ) → is_reached time past ≡ true → is_reached time now ≡ true
 
 -- the looper has looked for messages, and nothing else happened
-pub record HasLooked (threads : ℕ) (past now : List Entry) : Type 0 where
+pub record LookedAlone (threads : ℕ) (past now : List Entry) : Type 0 where
   pub goes : (s : Script) → Goes threads s past → Goes threads s now
   pub posts : posts_made threads now ≡ posts_made threads past
-  pub time : time_of now ≡ time_of past
+  pub time : time_after now ≡ time_after past
   pub kept : KeepsReached past now
 
 -- the looper has looked for messages until it waits
 abbrev pub HasDrained : ℕ → Option ℕ → List Entry → List Entry → Type 0
-HasDrained threads until past now = HasLooked threads past now × WaitsFor until now
+HasDrained threads until past now = LookedAlone threads past now × WaitsForFirst until now
 
 -- the looper has looked for messages, and the time was moved on, no further than to this one
 pub record HasDriven (threads time : ℕ) (past now : List Entry) : Type 0 where
   pub goes : (s : Script) → time ≤ s.end → is_planned_time s time ≡ true → Goes threads s past → Goes threads s now
   pub posts : posts_made threads now ≡ posts_made threads past
-  pub within : time_of past ≤ time → time_of now ≤ time
+  pub within : time_after past ≤ time → time_after now ≤ time
   pub kept : KeepsReached past now
 
 -- the same, and the time is still before this one where it was
-abbrev pub IsUnderWay : ℕ → ℕ → List Entry → List Entry → Type 0
-IsUnderWay threads time past now = HasDriven threads time past now × (time_of past < time → time_of now < time)
+abbrev pub IsStillBefore : ℕ → ℕ → List Entry → List Entry → Type 0
+IsStillBefore threads time past now = HasDriven threads time past now × (time_after past < time → time_after now < time)
 
 -- the time was moved on to this one, if it wasn't later, and what was due on the way was taken; where it was before this one, nothing
 -- has come since that move, and for the time 0 nothing was done
 pub record HasMoved (threads time : ℕ) (past now : List Entry) : Type 0 where
   pub driven : HasDriven threads time past now
-  pub least : time ≤ time_of now
-  pub fresh : time_of past < time → is_fresh is_posting now ≡ true
-  pub reached : time_of past < time → is_reached time now ≡ true
+  pub least : time ≤ time_after now
+  pub fresh : time_after past < time → is_fresh is_posting now ≡ true
+  pub reached : time_after past < time → is_reached time now ≡ true
   pub start : time ≡ 0 → now ≡ past
 
 -- the looper has posted what these parcels hold, in order
 pub record HasPosted (threads : ℕ) (parcels : List Parcel) (past now : List Entry) : Type 0 where
   pub goes : (s : Script) → is_fresh is_posting past ≡ true → Goes threads s past → Goes threads s now
   pub fresh : is_fresh is_posting past ≡ true → is_fresh is_posting now ≡ true
-  pub posts : posts_made threads now ≡ posts_made threads past ++ posts_at (time_of past) parcels
-  pub time : time_of now ≡ time_of past
+  pub posts : posts_made threads now ≡ posts_made threads past ++ posts_at (time_after past) parcels
+  pub time : time_after now ≡ time_after past
   pub kept : KeepsReached past now
 
 -- the history is at its end
-pub record HasEnded (threads : ℕ) (s : Script) (es : List Entry) : Type 0 where
+pub record MainHasEnded (threads : ℕ) (s : Script) (es : List Entry) : Type 0 where
   pub looks : AllByRecursion (λ e. IsPostOrLook e.call) (entries_by threads es)
   pub controlled : is_controlled true true (threads + 1) s.end es ≡ true
   pub timely : is_called_in_time (threads + 1) es ≡ true
-  pub first : each_behind comes_first [] es ≡ true
+  pub first : each_behind post_comes_first [] es ≡ true
   pub planned : each_behind (moves_as_planned s) [] es ≡ true
   pub halted : ends_halted es ≡ true
 
 -- what was due was taken, and the queue was halted at its time
 pub record HasHalted (threads : ℕ) (past now : List Entry) : Type 0 where
-  pub ends : (s : Script) → time_of past ≡ s.end → Goes threads s past → HasEnded threads s now
+  pub ends : (s : Script) → time_after past ≡ s.end → Goes threads s past → MainHasEnded threads s now
   pub posts : posts_made threads now ≡ posts_made threads past
   pub kept : KeepsReached past now
 

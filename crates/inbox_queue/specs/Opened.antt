@@ -6,52 +6,52 @@ use Rattle.loop_model.specs.Base.{empty_base}
 use Rattle.loop_model.specs.Chain.{IsChainFrom}
 use Rattle.loop_model.specs.Legal.{IsLegal, AreNumbered}
 use Rattle.dash_script.specs.declared.script.Script.{Script}
-use Rattle.shared_queue.specs.Known.{Shared, IsOf, made_by}
+use Rattle.shared_queue.specs.Known.{Shared, IsOf, own_count}
 use Rattle.atomic_table.specs.Seated.{TableId}
 use Rattle.run_model.specs.Planned.{history_of}
-use Rattle.run_model.specs.Run.{setting_of}
+use Rattle.run_model.specs.Run.{record_setting}
 use Rattle.inbox_queue.specs.declared.parcel.Parcel.{Parcel}
 use Rattle.inbox_queue.specs.declared.run.Opened.{Opened}
 use Rattle.inbox_queue.specs.declared.run.InboxRan.{InboxRan}
 use Rattle.inbox_queue.specs.declared.run.InboxRan.TheVariants as ran
 use Rattle.inbox_queue.specs.InboxRun.{AreOfBlocks, posts_made, posts_admitted, IsInboxRun}
 use Rattle.run_model.specs.Control.{AreReached}
-use Rattle.inbox_queue.specs.MainQueue.{IsAt, threads_of, AreSilent, HasEnded}
+use Rattle.inbox_queue.specs.MainQueue.{HandsAreAt, threads_of, AreSilent, MainHasEnded}
 use Rattle.inbox_queue.specs.Turned.{Sender}
 use Rattle.inbox_queue.specs.Bad.{bad_line}
 
 -- the threads' posters of the queue, in order, none of which has made a call
 abbrev pub AreIdle : Shared TableId → List Sender → Type 0
 AreIdle queue posters = (k : ℕ) (d : Sender) → k < length posters
-    → IsOf (slice_index_or posters k d) queue × ((slice_index_or posters k d).sender ≡ k) × (made_by (slice_index_or posters k d) ≡ 0)
+    → IsOf (slice_index_or posters k d) queue × ((slice_index_or posters k d).sender ≡ k) × (own_count (slice_index_or posters k d) ≡ 0)
 
 -- the queue of so many threads, and who calls it
 pub record IsOpen (threads : ℕ) (o : Opened) : Type 0 where
-  pub at : IsAt o.place o.hands
+  pub at : HandsAreAt o.place o.hands
   pub count : threads_of o.hands ≡ threads
   pub looper : o.place.queue.constants.looper ≡ 0
   pub idle : AreIdle o.place.queue o.threads.items
   pub posters : length o.threads.items ≡ threads
 
 -- the whole run, with what was admitted
-pub record IsPlayed (s : Script) (threads : ℕ) (admitted : List (List Parcel)) (es : List Entry) : Type 0 where
-  pub ended : HasEnded threads s es
+pub record IsInboxPlayed (s : Script) (threads : ℕ) (admitted : List (List Parcel)) (es : List Entry) : Type 0 where
+  pub ended : MainHasEnded threads s es
   pub posts : posts_made threads es ≡ posts_admitted s.blocks admitted
   pub reached : AreReached s.blocks es
 
 -- what is kept of the queue, where this was seen of its history
-pub record IsKept (threads : ℕ) (es : List Entry) (r : QueueRecord) : Type 0 where
+pub record IsKeptRecord (threads : ℕ) (es : List Entry) (r : QueueRecord) : Type 0 where
   pub looper : r.looper ≡ 0
-  pub setting : setting_of r ≡ record { main = true; lockstep = true; senders = threads + 2 }
+  pub setting : record_setting r ≡ record { main = true; lockstep = true; senders = threads + 2 }
   pub chain : IsChainFrom (empty_base r.senders) r.segments
-  pub legal : IsLegal (setting_of r) (empty_base r.senders) (history_of r)
-  pub numbered : AreNumbered (setting_of r) (empty_base r.senders) (history_of r)
+  pub legal : IsLegal (record_setting r) (empty_base r.senders) (history_of r)
+  pub numbered : AreNumbered (record_setting r) (empty_base r.senders) (history_of r)
   pub silent : AreSilent threads (history_of r)
   pub whole : history_of r ≡ es
 
 -- each thread's posts of each block were admitted, and what is kept is a history in which just these were posted, from the start to the end
 abbrev pub IsWholeRun : Script → QueueRecord → List (List Parcel) → Type 0
-IsWholeRun s r admitted = AreOfBlocks s s.blocks admitted × ((es : List Entry) × IsKept s.threads es r × IsPlayed s s.threads admitted es)
+IsWholeRun s r admitted = AreOfBlocks s s.blocks admitted × ((es : List Entry) × IsKeptRecord s.threads es r × IsInboxPlayed s s.threads admitted es)
 
 -- where it is said that the script was run, the report is an inbox run of it
 abbrev pub Runs : Script → InboxRan → Type 0

@@ -2,7 +2,7 @@
 ghost use Rattle.std.specs.Prelude.{◌≡◌, ◌+◌, ◌<◌, ◌^◌, ℕ, map, length, not, flat_map};
 ghost use Rattle.std.specs.List.{position_from};
 ghost use Rattle.dash_script.specs.Reading.{HasText};
-ghost use Rattle.dash_script.specs.Text.{command_line, line_of, block_lines};
+ghost use Rattle.dash_script.specs.Text.{command_line, line_statement, block_lines};
 ghost use Rattle.inbox_queue.specs.Bad.{is_bad, bad_line as the_bad_line};
 
 use dash_script::{Block, Command, Line, Script};
@@ -35,7 +35,7 @@ fn is_post(command: Command) -> bool
 /// The number of the first of these lines that is no post, where so many lines stand before them.
 fn bad_in_lines(lines: &[Line], before: u64) -> Option<u64>
     requires { before + length lines.now < 2 ^ 64 }
-    ensures { result ≡ position_from is_bad (before + 1) (map line_of lines.now) }
+    ensures { result ≡ position_from is_bad (before + 1) (map line_statement lines.now) }
 {
     let mut number = before;
     for line in lines {

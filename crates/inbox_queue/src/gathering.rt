@@ -1,7 +1,7 @@
 //! A block's posts on their way through an inbox: the threads put them side by side, and the admitter takes them out.
 ghost use Rattle.std.specs.Prelude.{◌≡◌, ◌<◌, ◌++◌, ℕ, true, false, [], ◌∷◌, length, slice_index_or, IfOk};
 ghost use Rattle.std.specs.Thread.{IsSync};
-ghost use Rattle.inbox_queue.specs.Handed.{Sending, AreSenders, AreAllTakenIn, IsAllAdmitted};
+ghost use Rattle.inbox_queue.specs.Handed.{PutPosts, AreInboxSenders, AreAllTakenIn, IsAllAdmitted};
 ghost use Rattle.inbox_queue.specs.Gathered.{planned_for, PutsOf, EachPuts, PutBeginnings, HavePut, all_put};
 ghost use Rattle.inbox_queue.specs.Plans.{planned_posts};
 ghost use Rattle.inbox_queue.specs.InboxRun.{IsOfBlock};
@@ -72,9 +72,9 @@ fn put_all<R: Threads + Wait + Sync, G: Gate + Sync>(
     block: &Block,
     senders: &mut [InboxSender],
 )
-    requires senders { AreSenders inbox.now senders.old }
-    requires new { (k : ℕ) (d : Sending) → k < length senders.old → (slice_index_or senders.old k d).put ≡ [] }
-    ensures senders { (length senders.new ≡ length senders.old) × AreSenders inbox.now senders.new }
+    requires senders { AreInboxSenders inbox.now senders.old }
+    requires new { (k : ℕ) (d : PutPosts) → k < length senders.old → (slice_index_or senders.old k d).put ≡ [] }
+    ensures senders { (length senders.new ≡ length senders.old) × AreInboxSenders inbox.now senders.new }
     ensures put { EachPuts script.now block.now senders.old senders.new }
 {
     let count = senders.len().max(1);
@@ -87,7 +87,7 @@ fn put_all<R: Threads + Wait + Sync, G: Gate + Sync>(
 
 /// Whether each sender has put all that its lines of the block plan.
 fn have_put(script: &Script, block: &Block, senders: &[InboxSender]) -> bool
-    requires numbers { (k : ℕ) (d : Sending) → k < length senders.now → (slice_index_or senders.now k d).number ≡ k }
+    requires numbers { (k : ℕ) (d : PutPosts) → k < length senders.now → (slice_index_or senders.now k d).number ≡ k }
     requires put { PutBeginnings script.now block.now senders.now }
     ensures { result ≡ true → HavePut script.now block.now senders.now }
 {
@@ -103,7 +103,7 @@ fn have_put(script: &Script, block: &Block, senders: &[InboxSender]) -> bool
 /// The admitter takes in all senders.
 fn take_in_all(inbox: &Inbox, admitter: &mut Admitter, senders: Vec<InboxSender>)
     requires admitter { (admitter.old.inbox ≡ inbox.now) × (length admitter.old.taken ≡ length senders.items) }
-    requires senders { AreSenders inbox.now senders.items }
+    requires senders { AreInboxSenders inbox.now senders.items }
     ensures admitter { (admitter.new.inbox ≡ inbox.now) × (admitter.new.admitted ≡ admitter.old.admitted) }
     ensures taken { admitter.new.taken ≡ all_put senders.items }
 {

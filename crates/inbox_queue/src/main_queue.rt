@@ -3,7 +3,7 @@ ghost use Rattle.std.specs.Prelude.{◌≡◌, ◌+◌, true, false, Option, IfS
 ghost use Rattle.loop_model.specs.Items.{is_barrier};
 ghost use Rattle.message_pool.specs.Obtain.{IsNodeOf};
 ghost use Rattle.shared_queue.specs.Known.{IsOf};
-ghost use Rattle.inbox_queue.specs.MainQueue.{IsAt, HaveHeard, AreSameHands, IsSameButLooper, threads_of, seen, Leads, LooksOn, MovesOn, GrowsBy, IsPostOf, IsHaltAt, HasDrained, HasMoved, HasPosted, HasHalted, IsEarlier, time_of};
+ghost use Rattle.inbox_queue.specs.MainQueue.{HandsAreAt, HeardEachOther, AreSameHands, IsSameButLooper, threads_of, seen, Leads, LooksOn, MovesTime, GrowsByEntry, IsPostOf, IsHaltAt, HasDrained, HasMoved, HasPosted, HasHalted, IsEarlier, time_after};
 ghost use Rattle.inbox_queue.specs.Turned.{LookedBy, MovedBy, PostsBy, HasFields};
 
 use crate::parcel::Parcel;
@@ -70,8 +70,8 @@ impl Place {
     fn share(&self, hands: &mut Hands)
         requires { IsOf hands.old.looper self.now.queue × IsOf hands.old.controller self.now.queue }
         ensures same { AreSameHands hands.old hands.new }
-        ensures looper { HaveHeard hands.old.controller.view.seen (seen hands.old) (seen hands.new) hands.new.controller.view.seen }
-        ensures controller { HaveHeard (seen hands.old) hands.old.controller.view.seen (seen hands.new) hands.new.controller.view.seen }
+        ensures looper { HeardEachOther hands.old.controller.view.seen (seen hands.old) (seen hands.new) hands.new.controller.view.seen }
+        ensures controller { HeardEachOther (seen hands.old) hands.old.controller.view.seen (seen hands.new) hands.new.controller.view.seen }
     {
         hands.controller.hear(&self.queue, &mut hands.looper);
         hands.looper.hear(&self.queue, &mut hands.controller);
@@ -85,7 +85,7 @@ impl Place {
         hands: &mut Hands,
         post: &Post,
     ) -> Result<(), NoMemory>
-        requires { IsAt self.now hands.old }
+        requires { HandsAreAt self.now hands.old }
         ensures kept { IsSameButLooper self.now hands.old hands.new }
         ensures done { OnOk result (PostsBy post.now hands.old.looper hands.new.looper) }
     {
@@ -113,9 +113,9 @@ impl Place {
         hands: &mut Hands,
         post: &Post,
     ) -> Result<(), NoMemory>
-        requires { IsAt self.now hands.old }
-        ensures at { OnOk result (IsAt self.now hands.new × (threads_of hands.new ≡ threads_of hands.old)) }
-        ensures made { OnOk result (Leads (GrowsBy (threads_of hands.old) (IsPostOf post.now)) hands.old hands.new) }
+        requires { HandsAreAt self.now hands.old }
+        ensures at { OnOk result (HandsAreAt self.now hands.new × (threads_of hands.new ≡ threads_of hands.old)) }
+        ensures made { OnOk result (Leads (GrowsByEntry (threads_of hands.old) (IsPostOf post.now)) hands.old hands.new) }
     {
         self.post_once(rt, alloc, hands, post)?;
         self.share(hands);
@@ -130,8 +130,8 @@ impl Place {
         hands: &mut Hands,
         parcels: &[Parcel],
     ) -> Result<(), NoMemory>
-        requires { IsAt self.now hands.old }
-        ensures at { OnOk result (IsAt self.now hands.new × (threads_of hands.new ≡ threads_of hands.old)) }
+        requires { HandsAreAt self.now hands.old }
+        ensures at { OnOk result (HandsAreAt self.now hands.new × (threads_of hands.new ≡ threads_of hands.old)) }
         ensures made { OnOk result (Leads (HasPosted (threads_of hands.old) parcels.now) hands.old hands.new) }
     {
         for parcel in parcels {
@@ -142,7 +142,7 @@ impl Place {
 
     /// The looper looks for a message once, and recycles what it takes. The controller doesn't hear of it yet.
     fn look_once<R: Wait>(&self, rt: &R, hands: &mut Hands) -> Look
-        requires { IsAt self.now hands.old }
+        requires { HandsAreAt self.now hands.old }
         ensures kept { (hands.new.controller ≡ hands.old.controller) × (hands.new.pass.home ≡ self.now.pool) }
         ensures done { LookedBy hands.old.looper hands.new.looper result }
     {
@@ -160,8 +160,8 @@ impl Place {
 
     /// The looper looks for a message once, and recycles what it takes.
     fn look<R: Wait>(&self, rt: &R, hands: &mut Hands) -> Look
-        requires { IsAt self.now hands.old }
-        ensures at { IsAt self.now hands.new × (threads_of hands.new ≡ threads_of hands.old) }
+        requires { HandsAreAt self.now hands.old }
+        ensures at { HandsAreAt self.now hands.new × (threads_of hands.new ≡ threads_of hands.old) }
         ensures made { Leads (LooksOn (threads_of hands.old) result) hands.old hands.new }
     {
         let look = self.look_once(rt, hands);
@@ -171,8 +171,8 @@ impl Place {
 
     /// The looper takes all that is due. Answers until when it waits.
     fn drain<R: Wait>(&self, rt: &R, hands: &mut Hands) -> Option<u64>
-        requires { IsAt self.now hands.old }
-        ensures at { IsAt self.now hands.new × (threads_of hands.new ≡ threads_of hands.old) }
+        requires { HandsAreAt self.now hands.old }
+        ensures at { HandsAreAt self.now hands.new × (threads_of hands.new ≡ threads_of hands.old) }
         ensures made { Leads (HasDrained (threads_of hands.old) result) hands.old hands.new }
     {
         for _ in rt.forever() {
@@ -185,7 +185,7 @@ impl Place {
 
     /// The controller moves the time on, and the looper doesn't hear of it yet.
     fn advance_once<R: Wait>(&self, rt: &R, hands: &mut Hands, time: u64) -> Move
-        requires { IsAt self.now hands.old }
+        requires { HandsAreAt self.now hands.old }
         ensures kept { (hands.new.looper ≡ hands.old.looper) × (hands.new.pass ≡ hands.old.pass) }
         ensures done { MovedBy hands.old.controller hands.new.controller time result }
     {
@@ -200,9 +200,9 @@ impl Place {
 
     /// The controller moves the time on.
     fn advance<R: Wait>(&self, rt: &R, hands: &mut Hands, time: u64) -> Move
-        requires { IsAt self.now hands.old }
-        ensures at { IsAt self.now hands.new × (threads_of hands.new ≡ threads_of hands.old) }
-        ensures made { Leads (MovesOn (threads_of hands.old) time result) hands.old hands.new }
+        requires { HandsAreAt self.now hands.old }
+        ensures at { HandsAreAt self.now hands.new × (threads_of hands.new ≡ threads_of hands.old) }
+        ensures made { Leads (MovesTime (threads_of hands.old) time result) hands.old hands.new }
     {
         let moved = self.advance_once(rt, hands, time);
         self.share(hands);
@@ -217,8 +217,8 @@ impl Place {
         hands: &mut Hands,
         time: u64,
     ) -> Result<(), NoMemory>
-        requires { IsAt self.now hands.old }
-        ensures at { OnOk result (IsAt self.now hands.new × (threads_of hands.new ≡ threads_of hands.old)) }
+        requires { HandsAreAt self.now hands.old }
+        ensures at { OnOk result (HandsAreAt self.now hands.new × (threads_of hands.new ≡ threads_of hands.old)) }
         ensures made { OnOk result (Leads (HasMoved (threads_of hands.old) time) hands.old hands.new) }
     {
         if time == 0 {
@@ -241,9 +241,9 @@ impl Place {
 
     /// The controller halts the queue. Answers false where it is not halted by that.
     fn halt_once<R: Wait>(&self, rt: &R, hands: &mut Hands, time: u64) -> bool
-        requires { IsAt self.now hands.old }
-        ensures at { IsAt self.now hands.new × (threads_of hands.new ≡ threads_of hands.old) }
-        ensures halted { result ≡ true → Leads (λ past now. GrowsBy (threads_of hands.old + 1) (IsHaltAt (time_of past)) past now) hands.old hands.new }
+        requires { HandsAreAt self.now hands.old }
+        ensures at { HandsAreAt self.now hands.new × (threads_of hands.new ≡ threads_of hands.old) }
+        ensures halted { result ≡ true → Leads (λ past now. GrowsByEntry (threads_of hands.old + 1) (IsHaltAt (time_after past)) past now) hands.old hands.new }
         ensures same { result ≡ false → Leads (λ past now. now ≡ past) hands.old hands.new }
     {
         let halted = hands.controller.halt(rt, &self.queue, time);
@@ -257,8 +257,8 @@ impl Place {
 
     /// The looper takes all that is due, and the controller halts the queue at its time.
     pub(crate) fn halt<R: Wait>(&self, rt: &R, hands: &mut Hands, time: u64)
-        requires { IsAt self.now hands.old }
-        ensures at { IsAt self.now hands.new × (threads_of hands.new ≡ threads_of hands.old) }
+        requires { HandsAreAt self.now hands.old }
+        ensures at { HandsAreAt self.now hands.new × (threads_of hands.new ≡ threads_of hands.old) }
         ensures made { Leads (HasHalted (threads_of hands.old)) hands.old hands.new }
     {
         for _ in rt.forever() {

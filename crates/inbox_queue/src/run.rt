@@ -3,8 +3,8 @@ ghost use Rattle.std.specs.Prelude.{◌≡◌, ◌<◌, ◌≤◌, [], All, IfOk
 ghost use Rattle.dash_script.specs.Reading.{HasText};
 ghost use Rattle.message_pool.specs.Obtain.{IsNodeOf};
 ghost use Rattle.inbox_queue.specs.InboxRun.{AreOfBlocks};
-ghost use Rattle.inbox_queue.specs.MainQueue.{IsAt, threads_of, seen, AreSilent};
-ghost use Rattle.inbox_queue.specs.Opened.{IsWholeRun, IsOpen, IsPlayed, IsKept, Runs, RefusesBad};
+ghost use Rattle.inbox_queue.specs.MainQueue.{HandsAreAt, threads_of, seen, AreSilent};
+ghost use Rattle.inbox_queue.specs.Opened.{IsWholeRun, IsOpen, IsInboxPlayed, IsKeptRecord, Runs, RefusesBad};
 
 use crate::bad::bad_line;
 use crate::gathering::gather;
@@ -88,10 +88,10 @@ fn play<R: Threads + Wait + Sync, G: Gate + Sync>(
     hands: &mut Hands,
 ) -> Result<Sequence<Sequence<Parcel>>, NoMemory>
     requires text { HasText script.now × (0 < script.now.threads) }
-    requires at { IsAt place.now hands.old × (threads_of hands.old ≡ script.now.threads) × (seen hands.old ≡ []) }
-    ensures at { OnOk result (IsAt place.now hands.new × (threads_of hands.new ≡ threads_of hands.old)) }
+    requires at { HandsAreAt place.now hands.old × (threads_of hands.old ≡ script.now.threads) × (seen hands.old ≡ []) }
+    ensures at { OnOk result (HandsAreAt place.now hands.new × (threads_of hands.new ≡ threads_of hands.old)) }
     ensures admitted { IfOk result (AreOfBlocks script.now script.now.blocks) }
-    ensures played { IfOk result (λ lists. AreSilent script.now.threads (seen hands.new) → IsPlayed script.now script.now.threads lists (seen hands.new)) }
+    ensures played { IfOk result (λ lists. AreSilent script.now.threads (seen hands.new) → IsInboxPlayed script.now script.now.threads lists (seen hands.new)) }
 {
     let mut admitted = Sequence::new(alloc);
     for block in script.blocks.as_slice() {
@@ -118,7 +118,7 @@ fn recycle_all(pool: &Pool, pass: &mut PoolPass, mut nodes: NodeList<Message<Poo
 /// The history of the queue, at its end.
 fn keep(alloc: Global, opened: Opened) -> Result<QueueRecord, NoMemory>
     requires { IsOpen (threads_of opened.hands) opened }
-    ensures { IfOk result (IsKept (threads_of opened.hands) (seen opened.hands)) }
+    ensures { IfOk result (IsKeptRecord (threads_of opened.hands) (seen opened.hands)) }
 {
     let Opened {
         place,
@@ -158,7 +158,7 @@ fn run<R: Threads + Wait + Sync, G: Gate + Sync>(
 /// and its passes are counted from 0 in each block. Lockstep and the inbox are this project's profile.
 ///
 /// Bad where a line of the script is `loopers` with more than one, a `gauge` or an `on` line, or a command other than `post`,
-/// `post-async`, `front` and `callback`. Else it is refused only for want of memory.
+/// `post-async`, `front` and `callback`. Else it is refused only when out of memory.
 pub fn run_inbox<R: Threads + Wait + Sync, G: Gate + Sync>(
     rt: &R,
     alloc: Global,

@@ -29,9 +29,9 @@ pub struct InboxSender {
 impl Model for InboxSender {
     ghost use Rattle.inbox_queue.specs.Carried.{posts_of};
     ghost use Rattle.inbox_queue.specs.Passes.{known, home, SendsBy};
-    ghost use Rattle.inbox_queue.specs.Handed.{Sending};
+    ghost use Rattle.inbox_queue.specs.Handed.{PutPosts};
 
-    ghost Value = { Sending };
+    ghost Value = { PutPosts };
 
     ghost view = { λ s. record { inbox = home s.pass; number = s.number; put = posts_of (known s.pass) } };
 

@@ -7,7 +7,7 @@ use Rattle.std.specs.Fmt.{decimal}
 use Rattle.std.proofs.lemmas.Bool.{cases_Bool, lt-ltb}
 use Rattle.std.proofs.lemmas.Option.{none-some}
 use Rattle.std.proofs.lemmas.Slice.Eq.{bytes_eq-Decides}
-use Rattle.line_words.specs.Words.{number_of, maybe, one_of, IsShort, IsLong}
+use Rattle.line_words.specs.Words.{spelled_number, maybe, one_of, IsShort, IsLong}
 use Rattle.line_words.specs.Taking as taking
 use Rattle.line_words.specs.Taking.{Rest, read, and_then, below, maybe_below}
 use Rattle.line_words.proofs.Spelling.{number_again}
@@ -45,11 +45,11 @@ counted_again w n rest same fit = then_again _ _ _ _ (n, rest) (fixed_again w (d
 
 -- a number isn't written as the mark is
 no_mark : (n : ℕ) → IsLong n → bytes_eq (decimal n) (codes "-") ≡ false
-unfolding number_of
+unfolding spelled_number
 no_mark n fit =
     elim (cases_Bool (bytes_eq (decimal n) (codes "-"))) [
       | inl same ↦
-          let none : number_of (decimal n) ≡ None = ap number_of ((bytes_eq-Decides (decimal n) (codes "-")).0 same) in
+          let none : spelled_number (decimal n) ≡ None = ap spelled_number ((bytes_eq-Decides (decimal n) (codes "-")).0 same) in
           absurd (none-some n (sym none ∙ number_again n fit))
       | inr other ↦ other
     ]

@@ -12,7 +12,7 @@ use Rattle.std.proofs.Math.Seq.{take-append_seam, take-append-add}
 use Rattle.loop_model.proofs.Sorting.{AllByRecursion-append}
 use Rattle.line_words.specs.Words.{pieces}
 use Rattle.line_words.specs.LeastBad.{Begins, first_lines, IsLeastBad}
-use Rattle.line_words.specs.LineReading.{Reading, next_line, goes_on, read_from, read_text, plain, refused, taken_or}
+use Rattle.line_words.specs.LineReading.{Reading, next_line, goes_on_plain, read_plain_from, read_plain, plain, refused, taken_or}
 use Rattle.line_words.specs.Refusing.{with_said}
 use Rattle.line_words.specs.RefusedReading as refusing
 use Rattle.line_words.proofs.Splitting.{first_part}
@@ -107,8 +107,8 @@ module _ {L D T : Type 0} {r : Reading L D T} {bytes_of line_text : L → List �
   all_pieces (l ∷ ls) rest fit =
       ap pieces (append_assoc (line_text l) (flat_map line_text ls) rest) ∙ pieces_first l (flat_map line_text ls ++ rest) fit.0 ∙ ap (λ ps. bytes_of l ∷ ps) (all_pieces ls rest fit.1)
 
-  one_more : (k : ℕ) (d : D) (x p : List ℕ) (xs ps : List (List ℕ)) → xs ≡ p ∷ ps → read_from r k d (x ∷ xs) ≡ goes_on k (next_line r d x) (λ e. read_from r (k + 1) e xs)
-  unfolding read_from
+  one_more : (k : ℕ) (d : D) (x p : List ℕ) (xs ps : List (List ℕ)) → xs ≡ p ∷ ps → read_plain_from r k d (x ∷ xs) ≡ goes_on_plain k (next_line r d x) (λ e. read_plain_from r (k + 1) e xs)
+  unfolding read_plain_from
   one_more k d x p xs ps e = rw e refl
 
   front_cons : (ls : List L) (p : List ℕ) (ps : List (List ℕ)) → (q : List ℕ) × (qs : List (List ℕ)) × (map bytes_of ls ++ p ∷ ps ≡ q ∷ qs)
@@ -118,30 +118,30 @@ module _ {L D T : Type 0} {r : Reading L D T} {bytes_of line_text : L → List �
   line_next : (d : D) (l : L) → Fits l → next_line r d (bytes_of l) ≡ r.next d l
   line_next d l fit = ap (option_and_then (r.next d)) (f.again l fit)
 
-  then_goes : (k : ℕ) (o : Option D) (g : D → Option D) (h : D → Result T ℕ) (e : D) (total : Result T ℕ) → ((x : D) → g x ≡ Some e → h x ≡ total) → option_and_then g o ≡ Some e → goes_on k o h ≡ total
+  then_goes : (k : ℕ) (o : Option D) (g : D → Option D) (h : D → Result T ℕ) (e : D) (total : Result T ℕ) → ((x : D) → g x ≡ Some e → h x ≡ total) → option_and_then g o ≡ Some e → goes_on_plain k o h ≡ total
   then_goes k None g h e total each is = absurd (none-some e is)
   then_goes k (Some x) g h e total each is = each x is
 
-  front_read : (k : ℕ) (d e : D) (ls : List L) (p : List ℕ) (ps : List (List ℕ)) → AllFits ls → run r d ls ≡ Some e → read_from r k d (map bytes_of ls ++ p ∷ ps) ≡ read_from r (k + length ls) e (p ∷ ps)
+  front_read : (k : ℕ) (d e : D) (ls : List L) (p : List ℕ) (ps : List (List ℕ)) → AllFits ls → run r d ls ≡ Some e → read_plain_from r k d (map bytes_of ls ++ p ∷ ps) ≡ read_plain_from r (k + length ls) e (p ∷ ps)
   unfolding run
-  front_read k d e [] p ps fit h = let same : k + 0 ≡ k = omega arith in ap (λ x. read_from r k x (p ∷ ps)) (same_Some d e h) ∙ ap (λ n. read_from r n e (p ∷ ps)) (sym same)
+  front_read k d e [] p ps fit h = let same : k + 0 ≡ k = omega arith in ap (λ x. read_plain_from r k x (p ∷ ps)) (same_Some d e h) ∙ ap (λ n. read_plain_from r n e (p ∷ ps)) (sym same)
   front_read k d e (l ∷ ls) p ps fit h =
       let c = front_cons ls p ps in
       let same : k + 1 + length ls ≡ k + suc (length ls) = omega arith in
-      one_more k d (bytes_of l) c.0 (map bytes_of ls ++ p ∷ ps) c.1 c.2 ∙ ap (λ o. goes_on k o (λ x. read_from r (k + 1) x (map bytes_of ls ++ p ∷ ps))) (line_next d l fit.0)
-      ∙ then_goes k (r.next d l) (λ x. run r x ls) (λ x. read_from r (k + 1) x (map bytes_of ls ++ p ∷ ps)) e (read_from r (k + suc (length ls)) e (p ∷ ps))
-      (λ x ran. front_read (k + 1) x e ls p ps fit.1 ran ∙ ap (λ n. read_from r n e (p ∷ ps)) same) h
+      one_more k d (bytes_of l) c.0 (map bytes_of ls ++ p ∷ ps) c.1 c.2 ∙ ap (λ o. goes_on_plain k o (λ x. read_plain_from r (k + 1) x (map bytes_of ls ++ p ∷ ps))) (line_next d l fit.0)
+      ∙ then_goes k (r.next d l) (λ x. run r x ls) (λ x. read_plain_from r (k + 1) x (map bytes_of ls ++ p ∷ ps)) e (read_plain_from r (k + suc (length ls)) e (p ∷ ps))
+      (λ x ran. front_read (k + 1) x e ls p ps fit.1 ran ∙ ap (λ n. read_plain_from r n e (p ∷ ps)) same) h
 
-  last_read : (k : ℕ) (d : D) → r.is_end d ≡ true → read_from r k d ([] ∷ []) ≡ Ok (r.whole d)
-  unfolding read_from
+  last_read : (k : ℕ) (d : D) → r.is_end d ≡ true → read_plain_from r k d ([] ∷ []) ≡ Ok (r.whole d)
+  unfolding read_plain_from
   last_read k d is = rw is refl
 
   -- the text of a value is read as the value
-  pub text_again : (b : List ℕ) (t : T) → IsText b t → read_text r b ≡ Ok t
+  pub text_again : (b : List ℕ) (t : T) → IsText b t → read_plain r b ≡ Ok t
   text_again b t is =
       let cut : pieces b ≡ map bytes_of (lines t) ++ [] ∷ [] = ap pieces is.0 ∙ ap pieces (sym (append-nil (flat_map line_text (lines t)))) ∙ all_pieces (lines t) [] is.1 in
       let l = f.leads t in
-      ap (read_from r 1 r.start) cut ∙ front_read 1 r.start l.0 (lines t) [] [] is.1 l.1 ∙ last_read (1 + length (lines t)) l.0 l.2 ∙ ap (λ (x : T). Ok x) l.3
+      ap (read_plain_from r 1 r.start) cut ∙ front_read 1 r.start l.0 (lines t) [] [] is.1 l.1 ∙ last_read (1 + length (lines t)) l.0 l.2 ∙ ap (λ (x : T). Ok x) l.3
 
   -- ---- what is read, and where it goes wrong
 
@@ -204,9 +204,9 @@ module _ {L D T : Type 0} {r : Reading L D T} {bytes_of line_text : L → List �
       let m = first_part 10 more in
       let cut : pieces (first_lines k b ++ more) ≡ map bytes_of ls ++ p ∷ m.0 ∷ m.1 =
       ap pieces whole ∙ all_pieces ls (p ++ 10 ∷ more) h.fit ∙ ap (λ x. map bytes_of ls ++ x) (line_first p more free) ∙ ap (λ x. map bytes_of ls ++ p ∷ x) m.2 in
-      let stops : read_text r (first_lines k b ++ more) ≡ failed (1 + length ls) =
-      ap (read_from r 1 r.start) cut ∙ front_read 1 r.start d ls p (m.0 ∷ m.1) h.fit h.ran ∙ one_more (1 + length ls) d p m.0 (m.0 ∷ m.1) m.1 refl
-      ∙ ap (λ o. goes_on (1 + length ls) o (λ e. read_from r (1 + length ls + 1) e (m.0 ∷ m.1))) none in
+      let stops : read_plain r (first_lines k b ++ more) ≡ failed (1 + length ls) =
+      ap (read_plain_from r 1 r.start) cut ∙ front_read 1 r.start d ls p (m.0 ∷ m.1) h.fit h.ran ∙ one_more (1 + length ls) d p m.0 (m.0 ∷ m.1) m.1 refl
+      ∙ ap (λ o. goes_on_plain (1 + length ls) o (λ e. read_plain_from r (1 + length ls + 1) e (m.0 ∷ m.1))) none in
       not_both t (1 + length ls) (sym stops ∙ text_again (first_lines k b ++ more) t g.2)
 
   is_bad : (b : List ℕ) (d : D) (ls : List L) (p : List ℕ) (ps : List (List ℕ)) (k : ℕ) → Reached b d ls p ps k → (k < length (pieces b) → next_line r d p ≡ None) → IsBad b k
@@ -220,8 +220,8 @@ module _ {L D T : Type 0} {r : Reading L D T} {bytes_of line_text : L → List �
       }
 
   -- the last piece is empty behind a whole text
-  last_tells : (b : List ℕ) (d : D) (ls : List L) (p : List ℕ) (k : ℕ) → Reached b d ls p [] k → Tells b (read_from r k d (p ∷ []))
-  unfolding read_from
+  last_tells : (b : List ℕ) (d : D) (ls : List L) (p : List ℕ) (k : ℕ) → Reached b d ls p [] k → Tells b (read_plain_from r k d (p ∷ []))
+  unfolding read_plain_from
   last_tells b d ls p k h =
       elim (cases_Bool (eqb (length p) 0 && r.is_end d)) [
         | inl ends ↦
@@ -240,14 +240,14 @@ module _ {L D T : Type 0} {r : Reading L D T} {bytes_of line_text : L → List �
   next_taken d e bytes None is h = absurd (none-some e h)
   next_taken d e bytes (Some l) is h = let t = f.taken bytes l is in (l, t.0, t.1, h)
 
-  by_next : (b : List ℕ) (k : ℕ) (o : Option D) (g : D → Result T ℕ) → (o ≡ None → IsBad b k) → ((e : D) → o ≡ Some e → Tells b (g e)) → Tells b (goes_on k o g)
+  by_next : (b : List ℕ) (k : ℕ) (o : Option D) (g : D → Result T ℕ) → (o ≡ None → IsBad b k) → ((e : D) → o ≡ Some e → Tells b (g e)) → Tells b (goes_on_plain k o g)
   by_next b k None g bad good = bad refl
   by_next b k (Some e) g bad good = good e refl
 
-  tells : (b : List ℕ) (d : D) (ls : List L) (p : List ℕ) (ps : List (List ℕ)) (k : ℕ) → Reached b d ls p ps k → Tells b (read_from r k d (p ∷ ps))
+  tells : (b : List ℕ) (d : D) (ls : List L) (p : List ℕ) (ps : List (List ℕ)) (k : ℕ) → Reached b d ls p ps k → Tells b (read_plain_from r k d (p ∷ ps))
   tells b d ls p [] k h = last_tells b d ls p k h
   tells b d ls p (q ∷ ps) k h =
-      subst (Tells b) (sym (one_more k d p q (q ∷ ps) ps refl)) (by_next b k (next_line r d p) (λ e. read_from r (k + 1) e (q ∷ ps)) (λ is. is_bad b d ls p (q ∷ ps) k h (λ lt. is)) (λ e is.
+      subst (Tells b) (sym (one_more k d p q (q ∷ ps) ps refl)) (by_next b k (next_line r d p) (λ e. read_plain_from r (k + 1) e (q ∷ ps)) (λ is. is_bad b d ls p (q ∷ ps) k h (λ lt. is)) (λ e is.
       let t = next_taken d e p (r.line_of p) refl is in
       let cut : pieces b ≡ map bytes_of (ls ++ t.0 ∷ []) ++ q ∷ ps =
       h.cut ∙ ap (λ x. map bytes_of ls ++ x ∷ q ∷ ps) t.2 ∙ sym (append_assoc (map bytes_of ls) (bytes_of t.0 ∷ []) (q ∷ ps)) ∙ ap (λ x. x ++ q ∷ ps) (sym (map-append bytes_of ls (t.0 ∷ []))) in
@@ -260,26 +260,26 @@ module _ {L D T : Type 0} {r : Reading L D T} {bytes_of line_text : L → List �
       })))
 
   -- what reading gives is what the text is the text of, or its least bad line
-  text_tells : (b : List ℕ) → Tells b (read_text r b)
+  text_tells : (b : List ℕ) → Tells b (read_plain r b)
   unfolding run
   text_tells b =
       let p = first_part 10 b in
       let h : Reached b r.start [] p.0 p.1 1 = record { stands = f.starts; fit = tt; ran = refl; cut = p.2; line = refl } in
-      subst (λ ps. Tells b (read_from r 1 r.start ps)) (sym p.2) (tells b r.start [] p.0 p.1 1 h)
+      subst (λ ps. Tells b (read_plain_from r 1 r.start ps)) (sym p.2) (tells b r.start [] p.0 p.1 1 h)
 
   -- ---- the language of these lines is read so
 
-  plain_next : (k : ℕ) (d : D) (o : Option D) (x : D → Result T ℕ) (y : D → Result T (ℕ × Unit {0})) → ((e : D) → y e ≡ plainly (x e)) → refusing.goes_on k (refused o) (taken_or d o) y ≡ plainly (goes_on k o x)
+  plain_next : (k : ℕ) (d : D) (o : Option D) (x : D → Result T ℕ) (y : D → Result T (ℕ × Unit {0})) → ((e : D) → y e ≡ plainly (x e)) → refusing.goes_on k (refused o) (taken_or d o) y ≡ plainly (goes_on_plain k o x)
   plain_next k d None x y each = refl
   plain_next k d (Some e) x y each = each e
 
   plain_said : (k : ℕ) (d : D) (o : Option L) (x : D → Result T ℕ) (y : D → Result T (ℕ × Unit {0})) → ((e : D) → y e ≡ plainly (x e))
-      → refusing.goes_on k (refused (option_and_then (r.next d) o)) (with_said (plain r) d o) y ≡ plainly (goes_on k (option_and_then (r.next d) o) x)
+      → refusing.goes_on k (refused (option_and_then (r.next d) o)) (with_said (plain r) d o) y ≡ plainly (goes_on_plain k (option_and_then (r.next d) o) x)
   plain_said k d None x y each = refl
   plain_said k d (Some l) x y each = plain_next k d (r.next d l) x y each
 
-  plain_last : (k : ℕ) (d : D) (p : List ℕ) → refusing.read_from (plain r) k d (p ∷ []) ≡ plainly (read_from r k d (p ∷ []))
-  unfolding read_from refusing.read_from
+  plain_last : (k : ℕ) (d : D) (p : List ℕ) → refusing.read_from (plain r) k d (p ∷ []) ≡ plainly (read_plain_from r k d (p ∷ []))
+  unfolding read_plain_from refusing.read_from
   plain_last k d p =
       elim (cases_Bool (eqb (length p) 0 && r.is_end d)) [
         | inl ends ↦
@@ -291,23 +291,23 @@ module _ {L D T : Type 0} {r : Reading L D T} {bytes_of line_text : L → List �
 
   -- the text ends here, or may not stop here
   pub plain_ended : (k : ℕ) (d : D) (p : List ℕ) → (eqb (length p) 0 && r.is_end d) ≡ true → refusing.read_from (plain r) k d (p ∷ []) ≡ answer (r.whole d)
-  unfolding read_from
-  plain_ended k d p ends = let last : plainly (read_from r k d (p ∷ [])) ≡ answer (r.whole d) = rw ends refl in plain_last k d p ∙ last
+  unfolding read_plain_from
+  plain_ended k d p ends = let last : plainly (read_plain_from r k d (p ∷ [])) ≡ answer (r.whole d) = rw ends refl in plain_last k d p ∙ last
 
   pub plain_stopped : (k : ℕ) (d : D) (p : List ℕ) → (eqb (length p) 0 && r.is_end d) ≡ false → refusing.read_from (plain r) k d (p ∷ []) ≡ refused_at k tt
-  unfolding read_from
-  plain_stopped k d p other = let last : plainly (read_from r k d (p ∷ [])) ≡ refused_at k tt = rw other refl in plain_last k d p ∙ last
+  unfolding read_plain_from
+  plain_stopped k d p other = let last : plainly (read_plain_from r k d (p ∷ [])) ≡ refused_at k tt = rw other refl in plain_last k d p ∙ last
 
-  plain_from : (ps : List (List ℕ)) (p : List ℕ) (k : ℕ) (d : D) → refusing.read_from (plain r) k d (p ∷ ps) ≡ plainly (read_from r k d (p ∷ ps))
-  unfolding read_from refusing.read_from
+  plain_from : (ps : List (List ℕ)) (p : List ℕ) (k : ℕ) (d : D) → refusing.read_from (plain r) k d (p ∷ ps) ≡ plainly (read_plain_from r k d (p ∷ ps))
+  unfolding read_plain_from refusing.read_from
   plain_from [] p k d = plain_last k d p
   plain_from (q ∷ ps) p k d =
-      plain_said k d (r.line_of p) (λ e. read_from r (k + 1) e (q ∷ ps)) (λ e. refusing.read_from (plain r) (k + 1) e (q ∷ ps)) (λ e. plain_from ps q (k + 1) e)
+      plain_said k d (r.line_of p) (λ e. read_plain_from r (k + 1) e (q ∷ ps)) (λ e. refusing.read_from (plain r) (k + 1) e (q ∷ ps)) (λ e. plain_from ps q (k + 1) e)
 
-  plain_text : (b : List ℕ) → refusing.read_text (plain r) b ≡ plainly (read_text r b)
+  plain_text : (b : List ℕ) → refusing.read_text (plain r) b ≡ plainly (read_plain r b)
   plain_text b =
       let p = first_part 10 b in
-      subst (λ (ps : List (List ℕ)). refusing.read_from (plain r) 1 r.start ps ≡ plainly (read_from r 1 r.start ps)) (sym p.2) (plain_from p.1 p.0 1 r.start)
+      subst (λ (ps : List (List ℕ)). refusing.read_from (plain r) 1 r.start ps ≡ plainly (read_plain_from r 1 r.start ps)) (sym p.2) (plain_from p.1 p.0 1 r.start)
 
   plain_found : (t : T) (x : Result T ℕ) → plainly x ≡ answer t → x ≡ Ok t
   plain_found t (Ok s) e = ap (λ (y : T). Ok y) (same_answer s t e)
@@ -318,20 +318,20 @@ module _ {L D T : Type 0} {r : Reading L D T} {bytes_of line_text : L → List �
   plain_refused k u (Err j) e = ap (λ (n : ℕ). failed n) (same_line {T = T} j k tt u e)
 
   pub text_found : (b : List ℕ) (t : T) → refusing.read_text (plain r) b ≡ answer t → IsText b t
-  text_found b t e = subst (Tells b) (plain_found t (read_text r b) (sym (plain_text b) ∙ e)) (text_tells b)
+  text_found b t e = subst (Tells b) (plain_found t (read_plain r b) (sym (plain_text b) ∙ e)) (text_tells b)
 
   pub text_only : (b : List ℕ) (s t : T) → refusing.read_text (plain r) b ≡ answer s → IsText b t → s ≡ t
-  text_only b s t e is = same_value s t (read_text r b) (plain_found s (read_text r b) (sym (plain_text b) ∙ e)) (text_again b t is)
+  text_only b s t e is = same_value s t (read_plain r b) (plain_found s (read_plain r b) (sym (plain_text b) ∙ e)) (text_again b t is)
 
-  never : (b : List ℕ) (k : ℕ) (t : T) → read_text r b ≡ Err k → IsText b t → ⊥
+  never : (b : List ℕ) (k : ℕ) (t : T) → read_plain r b ≡ Err k → IsText b t → ⊥
   never b k t e is = not_both t k (sym e ∙ text_again b t is)
 
   pub text_never : (b : List ℕ) (k : ℕ) (u : Unit {0}) (t : T) → refusing.read_text (plain r) b ≡ refused_at k u → IsText b t → ⊥
-  text_never b k u t e is = never b k t (plain_refused k u (read_text r b) (sym (plain_text b) ∙ e)) is
+  text_never b k u t e is = never b k t (plain_refused k u (read_plain r b) (sym (plain_text b) ∙ e)) is
 
   pub text_bad : (b : List ℕ) (k : ℕ) (u : Unit {0}) → refusing.read_text (plain r) b ≡ refused_at k u → IsLeastBad IsText b k
   text_bad b k u e =
-      let read : read_text r b ≡ failed k = plain_refused k u (read_text r b) (sym (plain_text b) ∙ e) in
+      let read : read_plain r b ≡ failed k = plain_refused k u (read_plain r b) (sym (plain_text b) ∙ e) in
       let bad : IsBad b k = subst (Tells b) read (text_tells b) in
       record {
         counted = bad.counted;

@@ -7,7 +7,7 @@ use Rattle.std.specs.Str.Parse.{digits_value_after}
 use Rattle.std.proofs.lemmas.Bool.{cases_Bool, cases_lt, lt-ltb, le-ltb, or_from, or_left, or_right, not_from_true, not_from_false, and_right, and_left, eq-eqb, ne_eqb}
 use Rattle.std.proofs.lemmas.Bool.Decides.{nat_tests}
 use Rattle.std.proofs.lemmas.List.{drop_more, drop_all}
-use Rattle.line_words.specs.Words.{number_of}
+use Rattle.line_words.specs.Words.{spelled_number}
 use Rattle.line_words.specs.Rests.{digits_from}
 
 -- ---- one digit more
@@ -67,27 +67,27 @@ same_and : (a : Bool) → ((a && true) && true) ≡ a
 same_and true = refl
 same_and false = refl
 
-pub number_empty : (word : List ℕ) → length word ≡ 0 → None ≡ number_of word
-unfolding number_of
+pub number_empty : (word : List ℕ) → length word ≡ 0 → None ≡ spelled_number word
+unfolding spelled_number
 number_empty word e =
     let f : ((all_ascii_digits word && ltb 0 (length word)) && (eqb (length word) 1 || not (eqb (get_or word 0 0) 48))) ≡ false = and_left _ _ (and_right _ _ (le-ltb 0 (length word) (omega arith))) in
     sym (rw f refl)
 
-pub number_zero : (word : List ℕ) → 1 < length word → get_or word 0 0 ≡ 48 → None ≡ number_of word
-unfolding number_of
+pub number_zero : (word : List ℕ) → 1 < length word → get_or word 0 0 ≡ 48 → None ≡ spelled_number word
+unfolding spelled_number
 number_zero word long e =
     let f : ((all_ascii_digits word && ltb 0 (length word)) && (eqb (length word) 1 || not (eqb (get_or word 0 0) 48))) ≡ false =
     and_right _ _ (or_from _ _ (ne_eqb (length word) 1 (λ one. omega arith)) (not_from_true _ (eq-eqb (get_or word 0 0) 48 e))) in
     sym (rw f refl)
 
-number_counted : (word : List ℕ) → 0 < length word → (eqb (length word) 1 || not (eqb (get_or word 0 0) 48)) ≡ true → digits_from 0 word ≡ number_of word
-unfolding number_of
+number_counted : (word : List ℕ) → 0 < length word → (eqb (length word) 1 || not (eqb (get_or word 0 0) 48)) ≡ true → digits_from 0 word ≡ spelled_number word
+unfolding spelled_number
 number_counted word some f =
     let lt : 0 < 2 ^ 64 = omega arith in
     digits_from_is 0 word lt ∙ sym (rw (lt-ltb 0 (length word) some, f, same_and (all_ascii_digits word)) refl)
 
-pub number_short : (word : List ℕ) → length word ≡ 1 → digits_from 0 word ≡ number_of word
+pub number_short : (word : List ℕ) → length word ≡ 1 → digits_from 0 word ≡ spelled_number word
 number_short word one = number_counted word (omega arith) (or_left _ _ (eq-eqb (length word) 1 one))
 
-pub number_other : (word : List ℕ) → 0 < length word → (get_or word 0 0 ≡ 48 → ⊥) → digits_from 0 word ≡ number_of word
+pub number_other : (word : List ℕ) → 0 < length word → (get_or word 0 0 ≡ 48 → ⊥) → digits_from 0 word ≡ spelled_number word
 number_other word some ne = number_counted word some (or_right _ _ (not_from_false _ (ne_eqb (get_or word 0 0) 48 ne)))

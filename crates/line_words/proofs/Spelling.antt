@@ -8,15 +8,15 @@ use Rattle.std.proofs.lemmas.Bool.{and_parts, and_from, or_cases, or_left, or_ri
 use Rattle.std.proofs.lemmas.Option.{cond_some}
 use Rattle.std.proofs.lemmas.Str.Parse.{IsNumeralModel, numerals_by_value, tells_all_ascii_digits}
 use Rattle.std.proofs.lemmas.Fmt.{decimal-digits_value, digits_decimal, digits_value-decimal, decimal_nonempty, first_decimal, decimal_digit}
-use Rattle.line_words.specs.Words.{number_of, is_numeral}
+use Rattle.line_words.specs.Words.{spelled_number, is_numeral}
 
 -- texts of digits and their values, as the lemmas on numerals take them
 pub own : IsNumeralModel (λ ds. all_ascii_digits ds ≡ true) (digits_value 10)
 own = numerals_by_value (λ ds. all_ascii_digits ds ≡ true) tells_all_ascii_digits
 
 -- a word that is read as a number is its decimal
-pub number_taken : (word : List ℕ) (n : ℕ) → number_of word ≡ Some n → word ≡ decimal n
-unfolding number_of
+pub number_taken : (word : List ℕ) (n : ℕ) → spelled_number word ≡ Some n → word ≡ decimal n
+unfolding spelled_number
 number_taken word n e =
     let p = cond_some (is_numeral word && ltb (digits_value 10 word) (2 ^ 64)) (digits_value 10 word) n e in
     let a = and_parts (is_numeral word) (ltb (digits_value 10 word) (2 ^ 64)) p.0 in
@@ -36,8 +36,8 @@ first_fits n lt =
     ]
 
 -- the decimal of a number is read as the number
-pub number_again : (n : ℕ) → n < 2 ^ 64 → number_of (decimal n) ≡ Some n
-unfolding number_of
+pub number_again : (n : ℕ) → n < 2 ^ 64 → spelled_number (decimal n) ≡ Some n
+unfolding spelled_number
 number_again n lt =
     let v : digits_value 10 (decimal n) ≡ n = digits_value-decimal own n lt in
     let small : ltb (digits_value 10 (decimal n)) (2 ^ 64) ≡ true = lt-ltb _ _ (omega (arith, v)) in

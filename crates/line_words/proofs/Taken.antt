@@ -9,7 +9,7 @@ use Rattle.std.specs.Fmt.{decimal}
 use Rattle.std.proofs.lemmas.Bool.{cases_Bool, ltb-true, and_parts}
 use Rattle.std.proofs.lemmas.Option.{same_Some, none-some, cond_some}
 use Rattle.std.proofs.lemmas.Slice.Eq.{bytes_eq-Decides}
-use Rattle.line_words.specs.Words.{number_of, is_numeral, maybe, one_of, IsShort, IsLong}
+use Rattle.line_words.specs.Words.{spelled_number, is_numeral, maybe, one_of, IsShort, IsLong}
 use Rattle.line_words.specs.Taking as taking
 use Rattle.line_words.specs.Taking.{Rest, read, and_then, below, maybe_below, by_word}
 use Rattle.line_words.proofs.Spelling.{number_taken}
@@ -47,8 +47,8 @@ below_taken limit n m e =
     ]
 
 -- a word that is a number is below 2 to the 64
-pub number_small : (w : List ℕ) (n : ℕ) → number_of w ≡ Some n → n < 2 ^ 64
-unfolding number_of
+pub number_small : (w : List ℕ) (n : ℕ) → spelled_number w ≡ Some n → n < 2 ^ 64
+unfolding spelled_number
 number_small w n e =
     let p = cond_some (is_numeral w && ltb (digits_value 10 w) (2 ^ 64)) (digits_value 10 w) n e in
     let a = and_parts (is_numeral w) (ltb (digits_value 10 w) (2 ^ 64)) p.0 in
@@ -103,7 +103,7 @@ either_taken first second ws y e =
 pub long_taken : Takes decimal IsLong taking.long
 unfolding taking.long
 long_taken ws y e =
-    let p = one_taken number_of ws y e in
+    let p = one_taken spelled_number ws y e in
     (number_small p.0 y.0 p.1, p.2 ∙ ap (λ w. w ∷ y.1) (number_taken p.0 y.0 p.1))
 
 pub short_taken : Takes decimal IsShort taking.short
@@ -121,15 +121,15 @@ counted_taken spelling ws y e =
     let t = long_taken p.0.1 y p.2 in
     (t.0, fixed_taken spelling ws p.0 p.1 ∙ ap (λ r. spelling ∷ r) t.1)
 
-some_taken : (w : List ℕ) (o : Option ℕ) (m : Option ℕ) → number_of w ≡ o → option_map Some o ≡ Some m → IfSome m IsLong × (w ≡ maybe m)
+some_taken : (w : List ℕ) (o : Option ℕ) (m : Option ℕ) → spelled_number w ≡ o → option_map Some o ≡ Some m → IfSome m IsLong × (w ≡ maybe m)
 some_taken w None m is e = absurd (none-some m e)
 some_taken w (Some n) m is e = subst (λ x. IfSome x IsLong × (w ≡ maybe x)) (same_Some (Some n) m e) (number_small w n is, number_taken w n is)
 
-maybe_by : (w : List ℕ) (m : Option ℕ) → cond (bytes_eq w (codes "-")) (Some None) (option_map Some (number_of w)) ≡ Some m → IfSome m IsLong × (w ≡ maybe m)
+maybe_by : (w : List ℕ) (m : Option ℕ) → cond (bytes_eq w (codes "-")) (Some None) (option_map Some (spelled_number w)) ≡ Some m → IfSome m IsLong × (w ≡ maybe m)
 maybe_by w m e =
     elim (cases_Bool (bytes_eq w (codes "-"))) [
       | inl same ↦ subst (λ x. IfSome x IsLong × (w ≡ maybe x)) (same_Some None m (rw same at e)) (tt, (bytes_eq-Decides w (codes "-")).0 same)
-      | inr other ↦ some_taken w (number_of w) m refl (rw other at e)
+      | inr other ↦ some_taken w (spelled_number w) m refl (rw other at e)
     ]
 
 pub maybe_long_taken : Takes maybe (λ o. IfSome o IsLong) taking.maybe_long

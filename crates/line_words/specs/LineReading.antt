@@ -23,19 +23,19 @@ answered true d = Some d
 answered false d = None
 
 -- the rest is read after a good line; a bad one is the answer
-abbrev pub goes_on : {D T : Type 0} → ℕ → Option D → (D → Result T ℕ) → Result T ℕ
-goes_on k (Some d) rest = rest d
-goes_on k None rest = Err k
+abbrev pub goes_on_plain : {D T : Type 0} → ℕ → Option D → (D → Result T ℕ) → Result T ℕ
+goes_on_plain k (Some d) rest = rest d
+goes_on_plain k None rest = Err k
 
 -- what the pieces from line k on are the text of, or the first line that may not come where it stands
-unfoldable pub read_from : {L D T : Type 0} → Reading L D T → ℕ → D → List (List ℕ) → Result T ℕ
-read_from r k d [] = Err k
-read_from r k d (rest ∷ []) = if length rest == 0 && r.is_end d then Ok (r.whole d) else Err k
-read_from r k d (line ∷ piece ∷ more) = goes_on k (next_line r d line) (λ e. read_from r (k + 1) e (piece ∷ more))
+unfoldable pub read_plain_from : {L D T : Type 0} → Reading L D T → ℕ → D → List (List ℕ) → Result T ℕ
+read_plain_from r k d [] = Err k
+read_plain_from r k d (rest ∷ []) = if length rest == 0 && r.is_end d then Ok (r.whole d) else Err k
+read_plain_from r k d (line ∷ piece ∷ more) = goes_on_plain k (next_line r d line) (λ e. read_plain_from r (k + 1) e (piece ∷ more))
 
 -- what a text is the text of, or the first line that may not come where it stands
-abbrev pub read_text : {L D T : Type 0} → Reading L D T → List ℕ → Result T ℕ
-read_text r b = read_from r 1 r.start (pieces b)
+abbrev pub read_plain : {L D T : Type 0} → Reading L D T → List ℕ → Result T ℕ
+read_plain r b = read_plain_from r 1 r.start (pieces b)
 
 -- a line is refused where it may not come, and for no cause
 abbrev pub refused : {D : Type 0} → Option D → Option (Unit {0})

@@ -2,7 +2,7 @@
 use Rattle.std.specs.Prelude.{ℕ, ◌^◌, nat_lt, Bool, true, false, List, [], ◌∷◌, codes, Option, Some, None, if◌then◌else◌}
 use Rattle.std.specs.Option.{option_map}
 use Rattle.std.specs.Str.{bytes_eq}
-use Rattle.line_words.specs.Words.{number_of}
+use Rattle.line_words.specs.Words.{spelled_number}
 
 -- words that are still to be read
 abbrev pub Rest : Type 0
@@ -42,7 +42,7 @@ either first second rest =
 
 -- a number of 64 bits
 unfoldable pub long : Rest → Option (ℕ × Rest)
-long rest = and_then (word rest) (λ w more. read (number_of w) more)
+long rest = and_then (word rest) (λ w more. read (spelled_number w) more)
 
 -- a number of 32 bits
 unfoldable pub short : Rest → Option (ℕ × Rest)
@@ -54,7 +54,7 @@ counted name rest = and_then (fixed name rest) (λ _ more. long more)
 
 -- a number of 64 bits, or the mark of what is absent
 unfoldable pub maybe_long : Rest → Option (Option ℕ × Rest)
-maybe_long rest = and_then (word rest) (λ w more. read (if bytes_eq w (codes "-") then Some None else option_map Some (number_of w)) more)
+maybe_long rest = and_then (word rest) (λ w more. read (if bytes_eq w (codes "-") then Some None else option_map Some (spelled_number w)) more)
 
 -- the number, where it is below 2 to the 32
 abbrev pub maybe_below : Option ℕ → Option (Option ℕ)

@@ -1,7 +1,7 @@
 //! The words of a line.
 ghost use Rattle.std.specs.Prelude.{◌≡◌, ◌∷◌, [], ◌<◌, length, MatchOption, IfSome, IfNone};
 ghost use Rattle.std.specs.Option.{option_copied};
-ghost use Rattle.line_words.specs.Words.{number_of, parts};
+ghost use Rattle.line_words.specs.Words.{spelled_number, parts};
 ghost use Rattle.line_words.specs.Rests.{digits_from, parts_left};
 
 /// What stands before the first such byte, and what stands after it, where there is one.
@@ -20,7 +20,7 @@ pub fn split_first(bytes: &[u8], byte: u8) -> (&[u8], Option<&[u8]>)
 
 /// The number that a word spells: decimal digits below 2 to the 64, with no leading zero.
 pub fn number(word: &[u8]) -> Option<u64>
-    ensures { result ≡ number_of word.now }
+    ensures { result ≡ spelled_number word.now }
 {
     if word.is_empty() {
         return None;

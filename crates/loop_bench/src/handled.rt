@@ -2,7 +2,7 @@
 
 ghost use Rattle.std.specs.Prelude.{IfOk};
 ghost use Rattle.handler_post.specs.Ways.{IsReady, IsSameWay};
-ghost use Rattle.loop_bench.specs.Seated.{IsLast, IsOpened};
+ghost use Rattle.loop_bench.specs.Seated.{IsLastSender, IsOpened};
 
 use crate::modes::{Counts, more, no_counts};
 use handler_post::{Handler, Sent, Way};
@@ -104,8 +104,8 @@ fn forget<R: Wait>(
     last: &mut Poster<PoolClaim>,
     since: u64,
 ) -> Result<u64, NoMemory>
-    requires { IsLast queue.now last.old }
-    ensures { IsLast queue.now last.new }
+    requires { IsLastSender queue.now last.old }
+    ensures { IsLastSender queue.now last.new }
 {
     if since < PART {
         return Ok(since);

@@ -56,15 +56,15 @@ abbrev pub is_to_look : Situation → Bool
 is_to_look s = s.look == not_looked || (s.look == waits && nat_le s.time (s.moment / 1000000))
 
 -- a row of the table: where it holds, this is to be done
-pub record Row : Type 0 where
+pub record ActionRow : Type 0 where
   pub holds : Bool
   pub action : ℕ
 
-abbrev pub row : Bool → ℕ → Row
+abbrev pub row : Bool → ℕ → ActionRow
 row holds action = record { holds = holds; action = action }
 
 -- the table: what was taken out of the queue goes before all, then what came, and last a new look
-abbrev pub table : Situation → List Row
+abbrev pub table : Situation → List ActionRow
 table s =
     row (s.look == taken) handle_message
     ∷ row (s.look == idle) run_idle
@@ -76,7 +76,7 @@ table s =
     ∷ []
 
 -- the first row that holds; where none does the loop waits
-abbrev pub first_of : List Row → ℕ
+abbrev pub first_of : List ActionRow → ℕ
 first_of [] = wait
 first_of (first ∷ rest) = if first.holds then first.action else first_of rest
 

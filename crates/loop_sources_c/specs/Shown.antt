@@ -52,7 +52,7 @@ look_as kind = record { number = 0; birth = 0; id = 0; fd = 0; events = 0; kind 
 abbrev pub HasNotOpen : SourceLook → Type 0
 HasNotOpen r = r ≡ look_as not_open_kind
 
--- an answer, or want of memory
+-- an answer, or out of memory
 abbrev pub shown : Result SourceAnswer NoMemory → SourceAnswer
 shown (Ok r) = r
 shown (Err e) = answer_as no_memory_kind 0

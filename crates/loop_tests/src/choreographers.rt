@@ -4,7 +4,7 @@ ghost use Rattle.std.proofs.Common.{subst, sym};
 ghost use Rattle.std.specs.Thread.{IsSync};
 ghost use mathlib.Core.List.{IsPrefix};
 ghost use Rattle.frame_phases.specs.Frames.{lawful};
-ghost use Rattle.choreographer.specs.Known.{IsOf};
+ghost use Rattle.choreographer.specs.Known.{IsPassOf};
 ghost use Rattle.choreographer.specs.Ends.{HasHandedOut, entries_in};
 
 use choreographer::{
@@ -86,7 +86,7 @@ fn three(
     interval: u64,
 ) -> Result<(Choreographer, FramePass, FramePass, FramePass), NoMemory>
     requires { 0 < interval }
-    ensures passes { IfOk result (λ r. IsOf r.1 r.0 × IsOf r.2 r.0 × IsOf r.3 r.0) }
+    ensures passes { IfOk result (λ r. IsPassOf r.1 r.0 × IsPassOf r.2 r.0 × IsPassOf r.3 r.0) }
     ensures phases { IfOk result (λ r. r.0.constants.phases ≡ 4) }
     ensures pulses { IfOk result (λ r. r.0.constants.pulses ≡ None) }
 {
@@ -106,7 +106,7 @@ struct Animator<'a, R: Wait> {
 }
 
 impl<'a, R: Wait> FrameClient<StillHost> for Animator<'a, R> {
-    ghost Serves = { λ l c. IsOf l.pass c × (2 < c.constants.phases) };
+    ghost Serves = { λ l c. IsPassOf l.pass c × (2 < c.constants.phases) };
 
     ghost Origin = { ℕ };
 
@@ -164,7 +164,7 @@ struct Relay<'a, R: Wait> {
 }
 
 impl<'a, R: Wait> FrameClient<StillHost> for Relay<'a, R> {
-    ghost Serves = { λ l c. IsOf l.pass c × (2 < c.constants.phases) };
+    ghost Serves = { λ l c. IsPassOf l.pass c × (2 < c.constants.phases) };
 
     ghost Origin = { ℕ };
 
@@ -196,8 +196,8 @@ impl<'a, R: Wait> FrameClient<StillHost> for Relay<'a, R> {
 
 // Posts 5 and 9, which is due in 15 milliseconds, and 8, which is removed again.
 fn post_some<R: Wait + Abort>(rt: &R, c: &Choreographer, pass: &mut FramePass, host: &mut StillHost)
-    requires { IsOf pass.old c.now × (2 < c.now.constants.phases) }
-    ensures { IsOf pass.new c.now }
+    requires { IsPassOf pass.old c.now × (2 < c.now.constants.phases) }
+    ensures { IsPassOf pass.new c.now }
 {
     let due = c.post_callback(rt, pass, host, 1, 5, None, 0);
     let again = c.post_callback(rt, pass, host, 1, 8, None, 0);
@@ -214,9 +214,9 @@ fn pulse_now<R: Wait>(
     pass: &mut FramePass,
     host: &mut StillHost,
 ) -> Option<Pulse>
-    requires pass { IsOf pass.old c.now }
+    requires pass { IsPassOf pass.old c.now }
     requires pulses { c.now.constants.pulses ≡ None }
-    ensures { IsOf pass.new c.now }
+    ensures { IsPassOf pass.new c.now }
 {
     c.on_vsync(rt, pass, host)
 }
@@ -230,9 +230,9 @@ fn frame_at<R: Wait>(
     client: &mut Relay<R>,
     now: u64,
 ) -> Framed
-    requires passes { IsOf pass.old c.now × IsOf client.old.pass c.now × (2 < c.now.constants.phases) }
+    requires passes { IsPassOf pass.old c.now × IsPassOf client.old.pass c.now × (2 < c.now.constants.phases) }
     requires pulses { c.now.constants.pulses ≡ None }
-    ensures { IsOf pass.new c.now × IsOf client.new.pass c.now }
+    ensures { IsPassOf pass.new c.now × IsPassOf client.new.pass c.now }
 {
     host.now = now;
     pulse_now(rt, c, pass, host);
@@ -389,7 +389,7 @@ struct Hasty<'a, R: Wait> {
 }
 
 impl<'a, R: Wait> FrameClient<StillHost> for Hasty<'a, R> {
-    ghost Serves = { λ l c. IsOf l.pass c × IsOf l.relay.pass c × (2 < c.constants.phases) × (c.constants.pulses ≡ None) };
+    ghost Serves = { λ l c. IsPassOf l.pass c × IsPassOf l.relay.pass c × (2 < c.constants.phases) × (c.constants.pulses ≡ None) };
 
     ghost Origin = { ℕ };
 
@@ -469,7 +469,7 @@ fn a_pulse_is_delivered_once(rt: HostRuntime) -> Result<(), Fail> {
 fn with_its_pulses(
     alloc: Global,
 ) -> Result<(Choreographer, FramePass, FramePass, FramePass), NoMemory>
-    ensures passes { IfOk result (λ r. IsOf r.1 r.0 × IsOf r.2 r.0 × IsOf r.3 r.0) }
+    ensures passes { IfOk result (λ r. IsPassOf r.1 r.0 × IsPassOf r.2 r.0 × IsPassOf r.3 r.0) }
     ensures phases { IfOk result (λ r. r.0.constants.phases ≡ 4) }
     ensures pulses { IfOk result (λ r. r.0.constants.pulses ≡ Some r.1.number) }
 {
@@ -497,10 +497,10 @@ fn pulse_and_frame<R: Wait>(
     host: &mut StillHost,
     client: &mut Relay<R>,
 ) -> Option<(u64, Framed)>
-    requires passes { IsOf pass.old c.now × IsOf client.old.pass c.now × (2 < c.now.constants.phases) }
+    requires passes { IsPassOf pass.old c.now × IsPassOf client.old.pass c.now × (2 < c.now.constants.phases) }
     requires pulses { c.now.constants.pulses ≡ Some pass.old.number }
-    ensures pass { IsOf pass.new c.now × (pass.new.number ≡ pass.old.number) }
-    ensures client { IsOf client.new.pass c.now }
+    ensures pass { IsPassOf pass.new c.now × (pass.new.number ≡ pass.old.number) }
+    ensures client { IsPassOf client.new.pass c.now }
     ensures frame { IfSome result (λ r. r.1 ≢ Framed.Unscheduled) }
 {
     let Some(pulse) = c.on_vsync(rt, pass, host) else {
@@ -543,7 +543,7 @@ fn look_at_each<R: Wait + Abort>(
     client: &mut Relay<R>,
     rows: &[Look],
 )
-    requires passes { IsOf pass.old c.now × IsOf poster.old c.now × IsOf client.old.pass c.now × (2 < c.now.constants.phases) }
+    requires passes { IsPassOf pass.old c.now × IsPassOf poster.old c.now × IsPassOf client.old.pass c.now × (2 < c.now.constants.phases) }
     requires pulses { c.now.constants.pulses ≡ Some pass.old.number }
 {
     let mut host = still(*client.ran.allocator(), 0);
@@ -614,8 +614,8 @@ fn a_due_callback_schedules_a_frame_once(rt: HostRuntime) -> Result<(), Fail> {
 
 // Removes callbacks, one turn each, or until there is no memory.
 fn remove_some<R: Wait>(rt: &R, c: &Choreographer, pass: &mut FramePass, count: u32)
-    requires { IsOf pass.old c.now × (0 < c.now.constants.phases) }
-    ensures { IsOf pass.new c.now × (pass.new.number ≡ pass.old.number) }
+    requires { IsPassOf pass.old c.now × (0 < c.now.constants.phases) }
+    ensures { IsPassOf pass.new c.now × (pass.new.number ≡ pass.old.number) }
 {
     for _ in 0..count {
         if c.remove_callbacks(rt, pass, 0, 7, None).is_err() {
@@ -640,8 +640,8 @@ fn record_of_many<R: Threads + Wait + Sync>(
         all.as_mut_slice(),
         passes as usize,
         &|_, pass: &mut FramePass|
-            requires { IsSync R.row × IsOf pass.old choreographer × (0 < choreographer.constants.phases) }
-            ensures { IsOf pass.new choreographer × (pass.new.number ≡ pass.old.number) }
+            requires { IsSync R.row × IsPassOf pass.old choreographer × (0 < choreographer.constants.phases) }
+            ensures { IsPassOf pass.new choreographer × (pass.new.number ≡ pass.old.number) }
         { remove_some(rt, &choreographer, pass, count) },
     );
     Ok(choreographer.into_kept(all))
@@ -670,10 +670,10 @@ fn seal_one<R: Wait>(
     last: &mut FramePass,
     parts: &mut Vec<Sequence<FrameEntry>>,
 ) -> Result<(), NoMemory>
-    requires pass { IsOf last.old c.now × (last.old.number + 1 ≡ c.now.constants.passes) × (1 < c.now.constants.phases) }
+    requires pass { IsPassOf last.old c.now × (last.old.number + 1 ≡ c.now.constants.passes) × (1 < c.now.constants.phases) }
     requires seals { c.now.constants.seals ≡ true }
     requires parts { HasHandedOut last.old (entries_in parts.old.items) }
-    ensures pass { IsOf last.new c.now × (last.new.number ≡ last.old.number) }
+    ensures pass { IsPassOf last.new c.now × (last.new.number ≡ last.old.number) }
     ensures parts { OnOk result (HasHandedOut last.new (entries_in parts.new.items)) }
 {
     c.remove_callbacks(rt, last, 1, 8, None)?;
@@ -692,12 +692,12 @@ fn seal_some<R: Wait>(
     parts: &mut Vec<Sequence<FrameEntry>>,
     count: u32,
 ) -> Result<(), NoMemory>
-    requires first { IsOf first.old c.now }
-    requires last { IsOf last.old c.now × (last.old.number + 1 ≡ c.now.constants.passes) × (1 < c.now.constants.phases) }
+    requires first { IsPassOf first.old c.now }
+    requires last { IsPassOf last.old c.now × (last.old.number + 1 ≡ c.now.constants.passes) × (1 < c.now.constants.phases) }
     requires seals { c.now.constants.seals ≡ true }
     requires parts { HasHandedOut last.old (entries_in parts.old.items) }
-    ensures first { IsOf first.new c.now × (first.new.number ≡ first.old.number) }
-    ensures last { IsOf last.new c.now × (last.new.number ≡ last.old.number) }
+    ensures first { IsPassOf first.new c.now × (first.new.number ≡ first.old.number) }
+    ensures last { IsPassOf last.new c.now × (last.new.number ≡ last.old.number) }
     ensures parts { OnOk result (HasHandedOut last.new (entries_in parts.new.items)) }
     ensures heard { OnOk result (IsPrefix first.new.view.heard last.new.view.heard) }
 {
@@ -733,8 +733,8 @@ fn record_of_two<R: Wait>(
 ) -> Result<FrameRecord, NoMemory>
     requires two { (c.constants.passes ≡ 2) × (c.constants.seals ≡ true) × (1 < c.constants.phases) }
     requires none { passes.items ≡ [] }
-    requires first { IsOf first c × (first.number ≡ 0) }
-    requires last { IsOf last c × (last.number ≡ 1) × (last.view.handed ≡ 0) }
+    requires first { IsPassOf first c × (first.number ≡ 0) }
+    requires last { IsPassOf last c × (last.number ≡ 1) × (last.view.handed ≡ 0) }
     ensures { IfOk result (λ r. IsTrue (lawful r.interval r.phases r.entries)) }
 {
     let mut parts = Vec::new(alloc);

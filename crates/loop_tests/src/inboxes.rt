@@ -1,7 +1,7 @@
 //! An inbox: posts of two threads that an admitter takes, and scripts that run by it.
 ghost use Rattle.std.specs.Prelude.{◌≡◌, ◌<◌, ◌+◌, ℕ, length, replicate, None, slice_index_or};
 ghost use Rattle.std.specs.Thread.{IsSync};
-ghost use Rattle.inbox_queue.specs.Handed.{Sending, AreSenders};
+ghost use Rattle.inbox_queue.specs.Handed.{PutPosts, AreInboxSenders};
 
 use dash_script::{Parsed, parse};
 use inbox_queue::{
@@ -44,8 +44,8 @@ fn put_many<R: Wait>(rt: &R, inbox: &Inbox, sender: &mut InboxSender)
 
 // Each sender puts its posts on a thread of its own.
 fn side_by_side<R: Threads + Wait + Sync>(rt: &R, inbox: &Inbox, senders: &mut [InboxSender])
-    requires { AreSenders inbox.now senders.old }
-    ensures { (length senders.new ≡ length senders.old) × AreSenders inbox.now senders.new }
+    requires { AreInboxSenders inbox.now senders.old }
+    ensures { (length senders.new ≡ length senders.old) × AreInboxSenders inbox.now senders.new }
 {
     for_each_mut(
         rt,
@@ -86,9 +86,9 @@ fn close_both<R: Wait>(
 
 // The last of so many senders and one more.
 fn pop_last(inbox: &Inbox, senders: &mut Vec<InboxSender>, place: u32) -> InboxSender
-    requires { (length senders.old.items ≡ place + 1) × AreSenders inbox.now senders.old.items }
+    requires { (length senders.old.items ≡ place + 1) × AreInboxSenders inbox.now senders.old.items }
     ensures sender { (result.inbox ≡ inbox.now) × (result.number ≡ place) }
-    ensures rest { (length senders.new.items ≡ place) × AreSenders inbox.now senders.new.items }
+    ensures rest { (length senders.new.items ≡ place) × AreInboxSenders inbox.now senders.new.items }
 {
     senders.pop().unwrap()
 }

@@ -6,7 +6,7 @@ use Rattle.loop_model.specs.declared.journal.Act.{Act}
 use Rattle.loop_model.specs.declared.journal.Act.TheVariants.{Idle}
 use Rattle.loop_model.specs.declared.entry.Entry.{Entry}
 use Rattle.looper_run.specs.Holding.{Workplace}
-use Rattle.looper_run.specs.Acts.{IsIdle, GrowsBy, IsQuiet}
+use Rattle.looper_run.specs.Acts.{IsIdleAct, GrowsBy, IsQuietAct}
 use Rattle.looper_run.specs.Asked.{Asked}
 use Rattle.looper_run.specs.Carried.{CarriesOver, Carries}
 use Rattle.looper_run.proofs.Working.{behind}
@@ -21,15 +21,15 @@ grows_one P a b c x p (did, e, all) is =
     let one : All P (x ∷ []) = all_first P x [] p (λ k d near. absurd (omega (arith, near))) in
     (did ++ x ∷ [], behind a b c did (x ∷ []) e is, All-append P did (x ∷ []) all one)
 
-pub grows_idle : (a b c : List Act) (i : ℕ) (k : Bool) → GrowsBy IsIdle a b → c ≡ b ++ Idle i k ∷ [] → GrowsBy IsIdle a c
-grows_idle a b c i k before is = grows_one IsIdle a b c (Idle i k) tt before is
+pub grows_idle : (a b c : List Act) (i : ℕ) (k : Bool) → GrowsBy IsIdleAct a b → c ≡ b ++ Idle i k ∷ [] → GrowsBy IsIdleAct a c
+grows_idle a b c i k before is = grows_one IsIdleAct a b c (Idle i k) tt before is
 
 module _ {D : Type 0} {O : Type 0} (Works : D → Workplace → Type 0) (source : D → O) (count : D → ℕ) (told : D → Option (List Asked)) (Awaiting : D → Option ℕ → Type 0) (Passing : D → ℕ → List Entry → List Act → Type 0) where
   pub carries_none : (d : D) (acts : List Act) → CarriesOver Works source count told Awaiting Passing d d acts acts
   carries_none d acts = record { serves = λ w h. h; origin = refl; nudges = refl; asked = refl; awaits = λ awaited h. h; meets = λ s es h. h }
 
   -- a call, and then a quiet act
-  pub carries_one : (d e f : D) (a b c : List Act) (x : Act) → IsQuiet x → ((s : ℕ) (es : List Entry) → Passing f s es b → Passing f s es (b ++ x ∷ []))
+  pub carries_one : (d e f : D) (a b c : List Act) (x : Act) → IsQuietAct x → ((s : ℕ) (es : List Entry) → Passing f s es b → Passing f s es (b ++ x ∷ []))
       → CarriesOver Works source count told Awaiting Passing d e a b → Carries Works source count told Awaiting Passing e f → c ≡ b ++ x ∷ []
       → CarriesOver Works source count told Awaiting Passing d f a c
   carries_one d e f a b c x is law p q noted =
@@ -56,7 +56,7 @@ module _ {D : Type 0} {O : Type 0} (Works : D → Workplace → Type 0) (source 
       }
 
   -- an idle handler that ran and was told
-  pub carries_idle : (d e f : D) (a b c : List Act) (i : ℕ) (k : Bool) → ((s : ℕ) (es : List Entry) (x : Act) (acts : List Act) → IsQuiet x → Passing f s es acts → Passing f s es (acts ++ x ∷ []))
+  pub carries_idle : (d e f : D) (a b c : List Act) (i : ℕ) (k : Bool) → ((s : ℕ) (es : List Entry) (x : Act) (acts : List Act) → IsQuietAct x → Passing f s es acts → Passing f s es (acts ++ x ∷ []))
       → CarriesOver Works source count told Awaiting Passing d e a b → Carries Works source count told Awaiting Passing e f → c ≡ b ++ Idle i k ∷ []
       → CarriesOver Works source count told Awaiting Passing d f a c
   carries_idle d e f a b c i k law p q noted = carries_one d e f a b c (Idle i k) tt (λ s es. law s es (Idle i k) b tt) p q noted

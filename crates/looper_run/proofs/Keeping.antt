@@ -11,7 +11,7 @@ use Rattle.message_pool.specs.Values.{without_value}
 use Rattle.looper_run.specs.declared.own.Own.{Own}
 use Rattle.looper_run.specs.Holding.{Sender, Holding, Looping, Workplace, workplace, held}
 use Rattle.looper_run.specs.Asked.{Asked, Listening}
-use Rattle.looper_run.specs.Tests.{IsLent, IsTake, HasTaken}
+use Rattle.looper_run.specs.Tests.{IsLent, IsTake, HasTakenMessage}
 use Rattle.looper_run.specs.Carried.{CarriesOver, Carries, KeepsLooper, KeepsLent, unasked, unawaited}
 use Rattle.looper_run.specs.Ready.{RestsBetween, ServesBetween, HasToDispatch, HasToRoute, LeavesTaken}
 use Rattle.looper_run.specs.Loops.{IsStill, IsClosed}
@@ -88,7 +88,7 @@ pub same_item : (m n : Node) → without_value n ≡ without_value m → n.item 
 same_item m n rest = ap (λ (x : Node). x.item) rest
 
 pub taken_again : (M N : ℕ → List Entry → List Act → Type 0) (h : Holding) (m n : Node) (now : ℕ) → without_value n ≡ without_value m → ((s : ℕ) (es : List Entry) (acts : List Act) → M s es acts → N s es acts)
-    → HasTaken M h m now → HasTaken N h n now
+    → HasTakenMessage M h m now → HasTakenMessage N h n now
 taken_again M N h m n now rest weaker t =
     let same = same_item m n rest in
     record {

@@ -9,8 +9,8 @@ use Rattle.queue_state.specs.declared.answers.Nexted.TheVariants as nexted
 use Rattle.shared_queue.specs.Known.{Shared, IsOf}
 use Rattle.shared_queue.specs.Calls.{NextedBy}
 use Rattle.looper_run.specs.Holding.{Sender, State, Holding, Looping}
-use Rattle.looper_run.specs.Acts.{IsIdle, IsQuiet, GrowsBy}
-use Rattle.looper_run.specs.Tests.{Test, Passes, HasTaken}
+use Rattle.looper_run.specs.Acts.{IsIdleAct, IsQuietAct, GrowsBy}
+use Rattle.looper_run.specs.Tests.{Test, Passes, HasTakenMessage}
 use Rattle.looper_run.specs.Told.{Dispatches}
 use Rattle.looper_run.specs.Looks.{looked_by, HasDispatched, HasIdled, HasWaited, HasEnded}
 use Rattle.looper_run.specs.Round.{Works}
@@ -35,7 +35,7 @@ module _ (q : Shared TableId) (now : ℕ) (a b : Looping) (of : IsOf a.held.post
   works_waiting until h =
       let look = h.look in
       works_quiet a.held b.held look.0 look.1 look.2 (record { home = ap (λ (p : Tally). p.home) h.pass; looper = ap (λ (j : Journal). j.looper) h.journal }) q.constants.setting now
-      (ap (λ (s : State). s.entries) look.3.3) (grows_none IsQuiet a.held.journal.acts b.held.journal.acts (ap (λ (j : Journal). j.acts) h.journal))
+      (ap (λ (s : State). s.entries) look.3.3) (grows_none IsQuietAct a.held.journal.acts b.held.journal.acts (ap (λ (j : Journal). j.acts) h.journal))
 
   pub works_ending : HasEnded now a b → Works q.constants.setting now a.held b.held 0
   works_ending h = elim h.look [
@@ -46,12 +46,12 @@ module _ (q : Shared TableId) (now : ℕ) (a b : Looping) (of : IsOf a.held.post
     | inr over ↦
         (let look = over.0 in
         works_quiet a.held b.held look.0 look.1 look.2 (record { home = h.home; looper = ap (λ (j : Journal). j.looper) h.journal }) q.constants.setting now
-        (ap (λ (s : State). s.entries) look.3.1) (grows_none IsQuiet a.held.journal.acts b.held.journal.acts (ap (λ (j : Journal). j.acts) h.journal)))
+        (ap (λ (s : State). s.entries) look.3.1) (grows_none IsQuietAct a.held.journal.acts b.held.journal.acts (ap (λ (j : Journal). j.acts) h.journal)))
   ]
 
 -- what a look leaves of a test
 module _ (M : Test) (others : KeepsOthers M) (now : ℕ) (a : Holding) (p : Sender) (idle : Bool) where
-  pub passes_idle : KeepsQuiet M → (acts : List Act) → NextedBy a.poster p now idle nexted.Idle → GrowsBy IsIdle a.journal.acts acts → Passes M a → M p.sender p.view.seen acts
+  pub passes_idle : KeepsQuiet M → (acts : List Act) → NextedBy a.poster p now idle nexted.Idle → GrowsBy IsIdleAct a.journal.acts acts → Passes M a → M p.sender p.view.seen acts
   passes_idle quiet acts look ran passes =
       passes_quiet a (record { poster = p; pass = a.pass; journal = record { looper = a.journal.looper; acts = acts } }) look.0 look.1 look.2 (record { home = refl; looper = refl }) M others quiet
       (ap (λ (s : State). s.entries) look.3.3) (quiet_idle a.journal.acts acts ran) passes
@@ -59,12 +59,12 @@ module _ (M : Test) (others : KeepsOthers M) (now : ℕ) (a : Holding) (p : Send
   pub passes_wait : KeepsQuiet M → (until : Option ℕ) → NextedBy a.poster p now idle (nexted.Wait until) → Passes M a → Passes M (looked_by a p)
   passes_wait quiet until look passes =
       passes_quiet a (looked_by a p) look.0 look.1 look.2 (record { home = refl; looper = refl }) M others quiet
-      (ap (λ (s : State). s.entries) look.3.3) (grows_none IsQuiet a.journal.acts a.journal.acts refl) passes
+      (ap (λ (s : State). s.entries) look.3.3) (grows_none IsQuietAct a.journal.acts a.journal.acts refl) passes
 
   pub passes_over : KeepsQuiet M → NextedBy a.poster p now idle nexted.Over → Passes M a → Passes M (looked_by a p)
   passes_over quiet look passes =
       passes_quiet a (looked_by a p) look.0 look.1 look.2 (record { home = refl; looper = refl }) M others quiet
-      (ap (λ (s : State). s.entries) look.3.1) (grows_none IsQuiet a.journal.acts a.journal.acts refl) passes
+      (ap (λ (s : State). s.entries) look.3.1) (grows_none IsQuietAct a.journal.acts a.journal.acts refl) passes
 
   pub passes_disposed : KeepsDisposal M → (left : List Node) → NextedBy a.poster p now idle (nexted.End left) → Passes M a → Passes M (looked_by a p)
   passes_disposed disposal left look passes =
@@ -72,7 +72,7 @@ module _ (M : Test) (others : KeepsOthers M) (now : ℕ) (a : Holding) (p : Send
       (ap (λ (s : State). s.entries) look.3.2) refl passes
 
   -- a message that was taken may be dispatched
-  pub taken_by_look : (q : Shared TableId) → IsOf a.poster q → (number moment : ℕ) (node : Node) → NextedBy a.poster p now idle (nexted.Taken number moment node) → Passes M a → HasTaken M (looked_by a p) node moment
+  pub taken_by_look : (q : Shared TableId) → IsOf a.poster q → (number moment : ℕ) (node : Node) → NextedBy a.poster p now idle (nexted.Taken number moment node) → Passes M a → HasTakenMessage M (looked_by a p) node moment
   taken_by_look q of number moment node look passes =
       has_taken a (looked_by a p) look.0 look.1 look.2 (record { home = refl; looper = refl }) M q.constants number moment node others
       (look.2.own q.constants of.1).0 look.3.2 (ap (λ (s : State). s.entries) look.3.3) refl passes

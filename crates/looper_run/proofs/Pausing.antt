@@ -19,7 +19,7 @@ use Rattle.looper_run.specs.Holding.{Sender, Holding, Looping, IsAt}
 use Rattle.looper_run.specs.Asked.{Asked, Listening, Listen, with_asked, asked_by_round}
 use Rattle.looper_run.specs.Tests.{Test, Passes}
 use Rattle.looper_run.specs.Looks.{looked_by, by_poster, HasAnswer, HasEnded, IsBegun, WaitsAsTold}
-use Rattle.looper_run.specs.Loops.{WorksOn, HasStepped, HasPaused, Stepped, IsClosed, StepsBy, IsLoop, LastWait, LoopBy, LoopsOrGoes, StepsOrGoes, IsLoopOrGoes, Pauses, loop_of, pace_of, HasPaced, UnlessHalted, UnlessLost, is_over, IsNoWait}
+use Rattle.looper_run.specs.Loops.{IsLoopPart, HasStepped, HasPaused, Stepped, IsClosed, StepsUntil, IsLoop, LastWait, LoopBy, LoopsOrGoes, StepsOrGoes, IsLoopOrGoes, Pauses, loop_of, pace_of, HasPaced, UnlessHalted, UnlessLost, has_ended_looper, IsNoWait}
 use Rattle.looper_run.specs.Round.{UnlessStopped}
 use Rattle.looper_run.proofs.Asking.{tells_as, with_more}
 use Rattle.looper_run.proofs.Quiet.{quiet_events}
@@ -78,7 +78,7 @@ module _ (shows : ℕ → Bool) (start : ℕ) (cap : Option ℕ) (q : Shared Tab
       let n = h.3 in
       let looked = looking shows start q h.0 h.0.held.poster n.looked n.now n.until of_slept (subst (λ i. HasLooked shows start i n.now (nexted.Wait n.until) h.0.held.poster n.looked) (sym idle) n.look) in
       let heard = works_on_then shows start q.constants.setting h.0.held (by_poster h.0 n.looked).held (by_poster h.0 h.2).held looked.works (listening shows start q h.0 n.looked h.2 n.listened) in
-      let paused : WorksOn shows start q.constants.setting h.0.held b.held = subst (λ (x : Looping). WorksOn shows start q.constants.setting h.0.held x.held) (sym h.4) heard in
+      let paused : IsLoopPart shows start q.constants.setting h.0.held b.held = subst (λ (x : Looping). IsLoopPart shows start q.constants.setting h.0.held x.held) (sym h.4) heard in
       let all = works_on_then shows start q.constants.setting a.held h.0.held b.held (goes_then shows start q a.held l.held h.0.held g slept).works paused in
       let here : b.held.poster ≡ h.2 = ap (λ (x : Looping). x.held.poster) h.4 in
       let at : h.0.held.poster ≡ h.1.0 = ap (λ (x : Looping). x.held.poster) h.1.3 in (
@@ -111,7 +111,7 @@ module _ (shows : ℕ → Bool) (start : ℕ) (cap : Option ℕ) (q : Shared Tab
 pub closed_as : (P Q : List Listening → Type 0) (a b : Looping) → ((heard : List Listening) → P heard → Q heard) → IsClosed P a b → IsClosed Q a b
 closed_as P Q a b weaker h = record { poster = h.poster; pass = h.pass; looper = h.looper; told = tells_as P Q a.held.journal.acts b.held.journal.acts weaker h.told; idle_owed = h.idle_owed }
 
-steps_as : (P Q : List Listening → Type 0) (shows : ℕ → Bool) (start : ℕ) (cap : Option ℕ) (a b : Looping) (r : Loop) → ((heard : List Listening) → P heard → Q heard) → StepsBy P shows start cap a b r → StepsBy Q shows start cap a b r
+steps_as : (P Q : List Listening → Type 0) (shows : ℕ → Bool) (start : ℕ) (cap : Option ℕ) (a b : Looping) (r : Loop) → ((heard : List Listening) → P heard → Q heard) → StepsUntil P shows start cap a b r → StepsUntil Q shows start cap a b r
 steps_as P Q shows start cap a b loop.Ended weaker h = (h.0, h.1, h.2, h.3, weaker [] h.4)
 steps_as P Q shows start cap a b (loop.Cap now) weaker h = (h.0, h.1, h.2, h.3, h.4, closed_as P Q h.2 b weaker h.5)
 steps_as P Q shows start cap a b loop.Nudged weaker h = (h.0, h.1, h.2, h.3, h.4, closed_as P Q h.2 b weaker h.5)
@@ -123,7 +123,7 @@ begun_at P a b h = record { left = h.left; lent = h.lent; poster = h.poster; pas
 
 -- a beginning, and then steps
 pub begins : (P : List Listening → Type 0) (Q : List Listening → Type 0) (C : ℕ → List Listening → List Listening → Type 0) (shows : ℕ → Bool) (start : ℕ) (cap : Option ℕ) (now : ℕ) (a b c : Looping) (r : Loop)
-    → IsMoment shows start now → IsBegun P a b → ((heard more : List Listening) → P heard → Q more → C now heard more) → StepsBy Q shows start cap b c r → IsLoop C shows start cap a c r
+    → IsMoment shows start now → IsBegun P a b → ((heard more : List Listening) → P heard → Q more → C now heard more) → StepsUntil Q shows start cap b c r → IsLoop C shows start cap a c r
 begins P Q C shows start cap now a b c loop.Ended m h both s =
     (now, m, h.told.0, b, begun_at P a b h, steps_as Q (C now h.told.0) shows start cap b c loop.Ended (λ more x. both h.told.0 more h.told.3 x) s)
 begins P Q C shows start cap now a b c (loop.Cap at) m h both s =
@@ -185,7 +185,7 @@ pauses shows start cap l p (waited.End list) r h is = absurd is
 pauses shows start cap l p waited.Over r h is = absurd is
 
 -- a pause, and events behind it, end the steps
-pub steps_pause : (called : List Listening → Type 0) (shows : ℕ → Bool) (start : ℕ) (cap : Option ℕ) (n : ℕ) (a l b c : Looping) (p : Pause) → Stepped shows start cap n a l → HasPaused shows start cap l b p → IsClosed called b c → StepsBy called shows start cap a c (loop_of p)
+pub steps_pause : (called : List Listening → Type 0) (shows : ℕ → Bool) (start : ℕ) (cap : Option ℕ) (n : ℕ) (a l b c : Looping) (p : Pause) → Stepped shows start cap n a l → HasPaused shows start cap l b p → IsClosed called b c → StepsUntil called shows start cap a c (loop_of p)
 steps_pause called shows start cap n a l b c (pause.Cap now) st h k = (n, l, b, st, h, k)
 steps_pause called shows start cap n a l b c pause.Nudged st h k = (n, l, b, st, h, k)
 
@@ -209,7 +209,7 @@ unless_pauses P (pause.Cap now) h = h
 unless_pauses P pause.Nudged h = h
 
 -- a pause ends no looper
-pub pause_goes_on : (r : Pause) → false ≡ is_over (loop_of r)
+pub pause_goes_on : (r : Pause) → false ≡ has_ended_looper (loop_of r)
 pause_goes_on (pause.Cap now) = refl
 pause_goes_on pause.Nudged = refl
 

@@ -17,7 +17,7 @@ use Rattle.looper_run.specs.Acts.{moment_on, IsLookAt, AreLooksAt}
 use Rattle.looper_run.specs.Tests.{Test, Passes, IsSameLooper}
 use Rattle.looper_run.specs.Looks.{looked_by, by_poster, HasWaited}
 use Rattle.looper_run.specs.Round.{Works}
-use Rattle.looper_run.specs.Loops.{IsStill, IsLookBy, AreLooksBy, WorksOn, HasWaitedLong, HasStepped, GoesOn}
+use Rattle.looper_run.specs.Loops.{IsStill, IsLookBy, AreLooksBy, IsLoopPart, HasWaitedLong, HasStepped, LooksAgain}
 use Rattle.looper_run.proofs.Working.{behind, told_then}
 use Rattle.looper_run.proofs.Steps.{KeepsOthers, KeepsQuiet}
 use Rattle.looper_run.proofs.Looking.{works_dispatching, works_idling, works_waiting, passes_wait}
@@ -61,7 +61,7 @@ module _ (shows : ℕ → Bool) (start : ℕ) (s : Setting) where
   looks_by_append sender past (x ∷ xs) ys p q = (p.0, looks_by_append sender (past ++ x ∷ []) xs ys p.1 (subst (λ (l : List Entry). AreLooksBy shows start s sender l ys) (sym (append_assoc past (x ∷ []) xs)) q))
 
   -- a part of a round at a moment of the clock is a part of a loop
-  pub works_on : (now n : ℕ) (a b : Holding) → IsMoment shows start now → Works s now a b n → WorksOn shows start s a b
+  pub works_on : (now n : ℕ) (a b : Holding) → IsMoment shows start now → Works s now a b n → IsLoopPart shows start s a b
   works_on now n a b m w = record {
     still = still_of a b w.same;
     more = w.more;
@@ -73,13 +73,13 @@ module _ (shows : ℕ → Bool) (start : ℕ) (s : Setting) where
   }
 
   -- the poster did nothing but listen, or was lent and came back
-  pub works_on_none : (a b : Holding) → IsStill a b → b.poster.view.seen ≡ a.poster.view.seen → b.journal.acts ≡ a.journal.acts → WorksOn shows start s a b
+  pub works_on_none : (a b : Holding) → IsStill a b → b.poster.view.seen ≡ a.poster.view.seen → b.journal.acts ≡ a.journal.acts → IsLoopPart shows start s a b
   works_on_none a b still seen acts = record { still = still; more = []; did = []; seen = seen ∙ sym (append-nil a.poster.view.seen); acts = acts ∙ sym (append-nil a.journal.acts); told = refl; looks = tt }
 
-  pub works_on_self : (a : Holding) → WorksOn shows start s a a
+  pub works_on_self : (a : Holding) → IsLoopPart shows start s a a
   works_on_self a = works_on_none a a (still_self a) refl refl
 
-  pub works_on_then : (a b c : Holding) → WorksOn shows start s a b → WorksOn shows start s b c → WorksOn shows start s a c
+  pub works_on_then : (a b c : Holding) → IsLoopPart shows start s a b → IsLoopPart shows start s b c → IsLoopPart shows start s a c
   works_on_then a b c p q =
       record {
         still = still_then a b c p.still q.still;
@@ -94,7 +94,7 @@ module _ (shows : ℕ → Bool) (start : ℕ) (s : Setting) where
 
 -- the looper went on, with the bell as it was
 pub record Goes (shows : ℕ → Bool) (start : ℕ) (s : Setting) (a b : Holding) : Type 0 where
-  pub works : WorksOn shows start s a b
+  pub works : IsLoopPart shows start s a b
   pub heard : b.poster.view.heard ≡ a.poster.view.heard
 
 module _ (shows : ℕ → Bool) (start : ℕ) (q : Shared TableId) where
@@ -109,7 +109,7 @@ module _ (shows : ℕ → Bool) (start : ℕ) (q : Shared TableId) where
   goes_by now n a b m w = record { works = works_on shows start q.constants.setting now n a b m w; heard = w.same.heard }
 
   -- the poster listened
-  pub listening : (l : Looping) (p r : Sender) → HasListened p r → WorksOn shows start q.constants.setting (by_poster l p).held (by_poster l r).held
+  pub listening : (l : Looping) (p r : Sender) → HasListened p r → IsLoopPart shows start q.constants.setting (by_poster l p).held (by_poster l r).held
   listening l p r h =
       works_on_none shows start q.constants.setting (by_poster l p).held (by_poster l r).held
       (record { table = h.same.table; sender = h.same.sender; constants = h.same.constants; turns = (let same = h.same.turns in omega (arith, same)); home = refl; looper = refl }) h.seen refl
@@ -142,7 +142,7 @@ module _ (shows : ℕ → Bool) (start : ℕ) (cap : Option ℕ) (q : Shared Tab
   waits_long a b of h = subst (λ (x : Looping). Goes shows start q.constants.setting a.held x.held) (sym h.3) (sleeping_long h.1 a a.held.poster h.0 of h.2)
 
   -- a step after which the looper goes on
-  pub goes_step : (a b : Looping) (r : Step) → IsOf a.held.poster q → GoesOn r → HasStepped shows start cap a b r → Goes shows start q.constants.setting a.held b.held
+  pub goes_step : (a b : Looping) (r : Step) → IsOf a.held.poster q → LooksAgain r → HasStepped shows start cap a b r → Goes shows start q.constants.setting a.held b.held
   goes_step a b step.Dispatched of on h =
       let slept = waits_long a h.0 of h.1 in
       goes_then shows start q a.held h.0.held b.held slept (goes_by shows start q h.2 1 h.0.held b.held h.3 (works_dispatching q h.2 h.0 b (of_still q a.held h.0.held slept.works.still of) h.4.0))

@@ -17,10 +17,10 @@ use Rattle.queue_state.specs.Ended.{ended}
 use Rattle.shared_queue.specs.Constants.{Constants, IsStateOf}
 use Rattle.shared_queue.specs.Known.{IsTurn}
 use Rattle.looper_run.specs.Holding.{Sender, State, Holding, Workplace, workplace}
-use Rattle.looper_run.specs.Acts.{IsQuiet, GrowsBy}
+use Rattle.looper_run.specs.Acts.{IsQuietAct, GrowsBy}
 use Rattle.loop_model.specs.Dispatches.{act_dispatch, dispatches}
 use Rattle.loop_model.specs.Posts.{post_at}
-use Rattle.looper_run.specs.Tests.{Test, Passes, IsSameLooper, HasTaken}
+use Rattle.looper_run.specs.Tests.{Test, Passes, IsSameLooper, HasTakenMessage}
 use Rattle.looper_run.specs.Told.{IsTold, IsRecycled, Dispatches}
 use Rattle.looper_run.specs.Round.{Works}
 use Rattle.looper_run.proofs.Working.{all_none, entry_of_own, same_then}
@@ -34,7 +34,7 @@ workplace_same a b s = λ i. record { table = s.table i; constants = s.constants
 pub serves_on : (S T : Workplace → Type 0) (a b : Holding) → ((w : Workplace) → S w → T w) → IsSameLooper a b → S (workplace a) → T (workplace b)
 serves_on S T a b keeps s h = subst T (sym (workplace_same a b s)) (keeps (workplace a) h)
 
-pub taken_on : (M N : Test) (h : Holding) (m : Node) (now : ℕ) → ((s : ℕ) (es : List Entry) (acts : List Act) → M s es acts → N s es acts) → HasTaken M h m now → HasTaken N h m now
+pub taken_on : (M N : Test) (h : Holding) (m : Node) (now : ℕ) → ((s : ℕ) (es : List Entry) (acts : List Act) → M s es acts → N s es acts) → HasTakenMessage M h m now → HasTakenMessage N h m now
 taken_on M N h m now keeps t = record {
   past = t.past;
   take = t.take;
@@ -44,14 +44,14 @@ taken_on M N h m now keeps t = record {
   passes = keeps h.poster.sender t.past h.journal.acts t.passes;
 }
 
-no_dispatch : (a : Act) → IsQuiet a → act_dispatch a ≡ None
+no_dispatch : (a : Act) → IsQuietAct a → act_dispatch a ≡ None
 no_dispatch (Dispatch n now route) q = absurd q
 no_dispatch (Idle i k) q = refl
 no_dispatch (Event f e m) q = refl
 no_dispatch (Vsync s) q = refl
 no_dispatch (Paint g v) q = refl
 
-quiet_none : (did : List Act) → All IsQuiet did → dispatches did ≡ []
+quiet_none : (did : List Act) → All IsQuietAct did → dispatches did ≡ []
 quiet_none did quiet = all_none act_dispatch did (λ k d near. no_dispatch (get_or did k d) (quiet k d near))
 
 same_poster : (a b : Holding) → b.poster ≡ a.poster → b.pass.home ≡ a.pass.home → b.journal.looper ≡ a.journal.looper → IsSameLooper a b
@@ -86,7 +86,7 @@ KeepsDisposal M = (s : ℕ) (es : List Entry) (e : Entry) (now : ℕ) (acts : Li
 
 -- the law on idle handlers and events
 abbrev pub KeepsQuiet : Test → Type 0
-KeepsQuiet M = (s : ℕ) (es : List Entry) (a : Act) (acts : List Act) → IsQuiet a → M s es acts → M s es (acts ++ a ∷ [])
+KeepsQuiet M = (s : ℕ) (es : List Entry) (a : Act) (acts : List Act) → IsQuietAct a → M s es acts → M s es (acts ++ a ∷ [])
 
 -- what a call left of the looper, where the poster took one turn and the pass and the journal are still the looper's
 pub record Turned (a b : Holding) : Type 0 where
@@ -103,12 +103,12 @@ found_passes M a x law f h =
 
 module _ (a b : Holding) (x y : State) (t : IsTurn a.poster b.poster x y) (u : Turned a b) where
   -- a turn that left the history as it was, and acts that tell no dispatch
-  pub works_quiet : (s : Setting) (now : ℕ) → y.entries ≡ x.entries → GrowsBy IsQuiet a.journal.acts b.journal.acts → Works s now a b 0
+  pub works_quiet : (s : Setting) (now : ℕ) → y.entries ≡ x.entries → GrowsBy IsQuietAct a.journal.acts b.journal.acts → Works s now a b 0
   works_quiet s now still grows =
       let none : dispatches grows.0 ≡ [] = quiet_none grows.0 grows.2 in
       subst (Works s now a b) (ap length none) (works_turn s now a b x y [] grows.0 (same_turn a b x y t u) (found a.poster b.poster x y t) (still ∙ sym (append-nil x.entries)) t.seen grows.1 none tt)
 
-  pub passes_quiet : (M : Test) → KeepsOthers M → KeepsQuiet M → y.entries ≡ x.entries → GrowsBy IsQuiet a.journal.acts b.journal.acts → Passes M a → Passes M b
+  pub passes_quiet : (M : Test) → KeepsOthers M → KeepsQuiet M → y.entries ≡ x.entries → GrowsBy IsQuietAct a.journal.acts b.journal.acts → Passes M a → Passes M b
   passes_quiet M others quiet still grows h =
       let before = found_passes M a x others (found a.poster b.poster x y t) h in
       passes_at M a.poster.sender x.entries (a.journal.acts ++ grows.0) b t.sender (t.seen ∙ still) grows.1
@@ -130,7 +130,7 @@ module _ (a b : Holding) (x y : State) (t : IsTurn a.poster b.poster x y) (u : T
 
   -- a turn that took a message
   pub has_taken : (M : Test) (key : Constants TableId) (n at : ℕ) (node : Node) → KeepsOthers M → IsStateOf key x → ended (Next at) (Dispatched n) x.messages ≡ node ∷ []
-      → y.entries ≡ x.entries ++ entry_of x a.poster.sender (Next at) (Dispatched n) ∷ [] → b.journal.acts ≡ a.journal.acts → Passes M a → HasTaken M b node at
+      → y.entries ≡ x.entries ++ entry_of x a.poster.sender (Next at) (Dispatched n) ∷ [] → b.journal.acts ≡ a.journal.acts → Passes M a → HasTakenMessage M b node at
   has_taken M key n at node others own took left acts h =
       let post = taken_post key x n at node own t.sound.0 took in
       let before = found_passes M a x others (found a.poster b.poster x y t) h in
@@ -156,7 +156,7 @@ module _ (a b : Holding) (x y : State) (t : IsTurn a.poster b.poster x y) (u : T
       (ap (λ (p : Sender). p.view.seen) (done.2.poster ∙ told.poster)) (ap (λ (j : Journal). j.acts) done.2.journal ∙ told.acts)
 
 -- acts that tell no dispatch were appended, and that is all
-pub works_acts : (s : Setting) (now : ℕ) (a b : Holding) → b.poster ≡ a.poster → b.pass.home ≡ a.pass.home → b.journal.looper ≡ a.journal.looper → GrowsBy IsQuiet a.journal.acts b.journal.acts → Works s now a b 0
+pub works_acts : (s : Setting) (now : ℕ) (a b : Holding) → b.poster ≡ a.poster → b.pass.home ≡ a.pass.home → b.journal.looper ≡ a.journal.looper → GrowsBy IsQuietAct a.journal.acts b.journal.acts → Works s now a b 0
 works_acts s now a b poster home looper grows =
     let none : dispatches grows.0 ≡ [] = quiet_none grows.0 grows.2 in
     record {

@@ -7,7 +7,7 @@ use Rattle.atomic_table.specs.Seated.{TableId}
 use Rattle.loop_model.specs.declared.call.Call.TheVariants.{Next}
 use Rattle.loop_model.specs.declared.reply.Reply.TheVariants.{Dispatched}
 use Rattle.loop_model.specs.declared.item.Item.{Item}
-use Rattle.loop_model.specs.declared.item.Item.TheVariants.{Post as Message, Barrier as Fence}
+use Rattle.loop_model.specs.declared.item.Item.TheVariants.{Post as Message, Barrier as SyncBarrier}
 use Rattle.loop_model.specs.declared.entry.Entry.{Entry}
 use Rattle.loop_model.specs.Items.{number_of, is_just}
 use Rattle.loop_model.specs.Live.{live_in_order}
@@ -47,7 +47,7 @@ is_post es n (Message m p) is h =
     let e : m ≡ n = same_number m n is in
     let j : h.0 ≡ n = omega (arith, h.1, e) in
     (e, subst (λ (k : ℕ). slice_get (accepted_posts es) k ≡ Some p) j h.2)
-is_post es n (Fence t w) is h = absurd (cc)
+is_post es n (SyncBarrier t w) is h = absurd (cc)
 
 -- the message that a look takes is the post of its number
 pub taken_post : (key : Constants TableId) (x : State) (n at : ℕ) (node : Node) → IsStateOf key x → IsSound x → ended (Next at) (Dispatched n) x.messages ≡ node ∷ [] → IsPost x.entries n node.item

@@ -18,7 +18,7 @@ use Rattle.loop_model.specs.declared.segment.Segment.{Segment}
 use Rattle.shared_queue.specs.Known.{IsTurnWith}
 use Rattle.shared_queue.proofs.Prefixes.{one_of, made_in-append, one_of-yes}
 use Rattle.looper_run.specs.Holding.{Sender, State, Holding}
-use Rattle.looper_run.specs.Acts.{entry_dispatch, taken_by, IsNoLookOf, IsQuiet, moment_on, IsLookAt, AreLooksAt}
+use Rattle.looper_run.specs.Acts.{entry_dispatch, taken_messages, IsNoLookOf, IsQuietAct, moment_on, IsLookAt, AreLooksAt}
 use Rattle.loop_model.specs.Dispatches.{act_dispatch, dispatches, call_dispatch}
 use Rattle.looper_run.specs.Tests.{Test, IsSameLooper, IsLent}
 use Rattle.looper_run.specs.Round.{Works}
@@ -70,10 +70,10 @@ with_others M s past (e ∷ more) acts law others h =
     subst (λ (l : List Entry). M s l acts) (append_assoc past (e ∷ []) more) (with_others M s (past ++ e ∷ []) more acts law parts.1 (law past e parts.0 h))
 
 -- a test that stays true where such an act is appended
-pub with_quiet : (M : Test) (s : ℕ) (es : List Entry) (acts did : List Act) → ((acts : List Act) (a : Act) → IsQuiet a → M s es acts → M s es (acts ++ a ∷ [])) → All IsQuiet did → M s es acts → M s es (acts ++ did)
+pub with_quiet : (M : Test) (s : ℕ) (es : List Entry) (acts did : List Act) → ((acts : List Act) (a : Act) → IsQuietAct a → M s es acts → M s es (acts ++ a ∷ [])) → All IsQuietAct did → M s es acts → M s es (acts ++ did)
 with_quiet M s es acts [] law quiet h = subst (λ (l : List Act). M s es l) (sym (append-nil acts)) h
 with_quiet M s es acts (a ∷ did) law quiet h =
-    let parts = first_all IsQuiet a did quiet in
+    let parts = first_all IsQuietAct a did quiet in
     subst (λ (l : List Act). M s es l) (append_assoc acts (a ∷ []) did) (with_quiet M s es (acts ++ a ∷ []) did law parts.1 (law acts a parts.0 h))
 
 -- in a state with these constants
@@ -84,18 +84,18 @@ module _ (s : Setting) (now : ℕ) where
   -- the poster took a turn that left this tail behind what it found, and the rest is at this act or acts
   pub works_turn : (a b : Holding) (x y : State) (tail : List Entry) (did : List Act) → IsSameLooper a b
       → Found a.poster x → y.entries ≡ x.entries ++ tail → b.poster.view.seen ≡ y.entries → b.journal.acts ≡ a.journal.acts ++ did
-      → dispatches did ≡ taken_by a.poster.sender tail → AreLooksAt s a.poster.sender now x.entries tail → Works s now a b (length (dispatches did))
+      → dispatches did ≡ taken_messages a.poster.sender tail → AreLooksAt s a.poster.sender now x.entries tail → Works s now a b (length (dispatches did))
   works_turn a b x y tail did same f left seen acts told looks =
       let behind : b.poster.view.seen ≡ a.poster.view.seen ++ (f.others ++ tail) =
       seen ∙ (left ∙ (ap (λ (l : List Entry). l ++ tail) f.entries ∙ append_assoc a.poster.view.seen f.others tail)) in
-      let none : taken_by a.poster.sender f.others ≡ [] = takes_none a.poster.sender f.others (no_looks a.poster.sender f.others f.all) in
+      let none : taken_messages a.poster.sender f.others ≡ [] = takes_none a.poster.sender f.others (no_looks a.poster.sender f.others f.all) in
       record {
         same = same;
         more = f.others ++ tail;
         did = did;
         seen = behind;
         acts = acts;
-        told = told ∙ sym (filter_map-append (entry_dispatch a.poster.sender) f.others tail ∙ ap (λ (l : List (ℕ × ℕ)). l ++ taken_by a.poster.sender tail) none);
+        told = told ∙ sym (filter_map-append (entry_dispatch a.poster.sender) f.others tail ∙ ap (λ (l : List (ℕ × ℕ)). l ++ taken_messages a.poster.sender tail) none);
         count_is = refl;
         looks = looks_append s a.poster.sender now a.poster.view.seen f.others tail
             (no_looks_at s a.poster.sender now a.poster.view.seen f.others (no_looks a.poster.sender f.others f.all))
@@ -109,13 +109,13 @@ module _ (s : Setting) (now : ℕ) where
   works_taken a b c d x y e n at route same f left seen acts own call reply moment lent same' seen' acts' =
       let sender = a.poster.sender in
       let pair : List (ℕ × ℕ) = (n, at) ∷ [] in
-      let none : taken_by sender f.others ≡ [] = takes_none sender f.others (no_looks sender f.others f.all) in
+      let none : taken_messages sender f.others ≡ [] = takes_none sender f.others (no_looks sender f.others f.all) in
       let mine : All (IsNoLookOf sender) lent.more = subst (λ (k : ℕ). All (IsNoLookOf k) lent.more) same.sender lent.no_looks in
-      let after : taken_by sender lent.more ≡ [] = takes_none sender lent.more mine in
+      let after : taken_messages sender lent.more ≡ [] = takes_none sender lent.more mine in
       let one : entry_dispatch sender e ≡ Some (n, at) = entry_of_own sender e own ∙ (λ i. call_dispatch (call i) (reply i)) in
-      let first : taken_by sender (f.others ++ e ∷ []) ≡ pair =
+      let first : taken_messages sender (f.others ++ e ∷ []) ≡ pair =
       filter_map-append (entry_dispatch sender) f.others (e ∷ []) ∙ (λ i. none i ++ cons_option (one i) []) in
-      let taken : taken_by sender ((f.others ++ e ∷ []) ++ lent.more) ≡ pair =
+      let taken : taken_messages sender ((f.others ++ e ∷ []) ++ lent.more) ≡ pair =
       filter_map-append (entry_dispatch sender) (f.others ++ e ∷ []) lent.more ∙ (λ i. first i ++ after i) in
       let told : dispatches (lent.did ++ Dispatch n at route ∷ []) ≡ pair =
       filter_map-append act_dispatch lent.did (Dispatch n at route ∷ []) ∙ ap (λ (l : List (ℕ × ℕ)). l ++ pair) (told_none lent.did lent.told) in

@@ -14,7 +14,7 @@ use Rattle.loop_model.specs.declared.entry.Entry.{Entry}
 use Rattle.loop_model.specs.Answers.{Setting}
 use Rattle.loop_model.specs.Entries.{is_next}
 use Rattle.looper_run.specs.Holding.{Holding}
-use Rattle.looper_run.specs.Acts.{IsOfDispatcher, entry_dispatch, taken_by, IsNoLookOf, moment_on, IsLookAt, AreLooksAt}
+use Rattle.looper_run.specs.Acts.{IsOfDispatcher, entry_dispatch, taken_messages, IsNoLookOf, moment_on, IsLookAt, AreLooksAt}
 use Rattle.loop_model.specs.Dispatches.{act_dispatch, dispatches, call_dispatch}
 use Rattle.looper_run.specs.Tests.{IsSameLooper, IsLent}
 use Rattle.looper_run.specs.Round.{Works}
@@ -125,16 +125,16 @@ told_no_dispatch (Paint g v) h = refl
 pub told_none : (did : List Act) → All IsOfDispatcher did → dispatches did ≡ []
 told_none did told = all_none act_dispatch did (λ k d near. told_no_dispatch (get_or did k d) (told k d near))
 
-pub takes_none : (sender : ℕ) (more : List Entry) → All (IsNoLookOf sender) more → taken_by sender more ≡ []
+pub takes_none : (sender : ℕ) (more : List Entry) → All (IsNoLookOf sender) more → taken_messages sender more ≡ []
 takes_none sender [] none = refl
 takes_none sender (e ∷ more) none = let parts = first_all (IsNoLookOf sender) e more none in rw (no_take sender e parts.0) (takes_none sender more parts.1)
 
 -- what two parts told and took, one behind the other
-pub told_then : (sender sender' : ℕ) (did did' : List Act) (more more' : List Entry) → sender' ≡ sender → dispatches did ≡ taken_by sender more → dispatches did' ≡ taken_by sender' more' → dispatches (did ++ did') ≡ taken_by sender (more ++ more')
+pub told_then : (sender sender' : ℕ) (did did' : List Act) (more more' : List Entry) → sender' ≡ sender → dispatches did ≡ taken_messages sender more → dispatches did' ≡ taken_messages sender' more' → dispatches (did ++ did') ≡ taken_messages sender (more ++ more')
 told_then sender sender' did did' more more' same first second =
     filter_map-append act_dispatch did did'
     ∙ (ap (λ (l : List (ℕ × ℕ)). l ++ dispatches did') first
-    ∙ (ap (λ (l : List (ℕ × ℕ)). taken_by sender more ++ l) (second ∙ ap (λ (k : ℕ). taken_by k more') same)
+    ∙ (ap (λ (l : List (ℕ × ℕ)). taken_messages sender more ++ l) (second ∙ ap (λ (k : ℕ). taken_messages k more') same)
     ∙ sym (filter_map-append (entry_dispatch sender) more more')))
 
 module _ (s : Setting) (now : ℕ) where

@@ -16,24 +16,24 @@ abbrev pub entry_dispatch : ℕ → Entry → Option (ℕ × ℕ)
 entry_dispatch sender e = if e.sender == sender then call_dispatch e.call e.reply else None
 
 -- the messages that the sender takes, in order
-abbrev pub taken_by : ℕ → List Entry → List (ℕ × ℕ)
-taken_by sender entries = filter_map (entry_dispatch sender) entries
+abbrev pub taken_messages : ℕ → List Entry → List (ℕ × ℕ)
+taken_messages sender entries = filter_map (entry_dispatch sender) entries
 
 -- an idle handler that ran, or an event that a listener was told of
-abbrev pub IsQuiet : Act → Type 0
-IsQuiet (Dispatch n now route) = ⊥
-IsQuiet (Idle i k) = Unit {0}
-IsQuiet (Event f e m) = Unit {0}
-IsQuiet (Vsync s) = ⊥
-IsQuiet (Paint g v) = ⊥
+abbrev pub IsQuietAct : Act → Type 0
+IsQuietAct (Dispatch n now route) = ⊥
+IsQuietAct (Idle i k) = Unit {0}
+IsQuietAct (Event f e m) = Unit {0}
+IsQuietAct (Vsync s) = ⊥
+IsQuietAct (Paint g v) = ⊥
 
 -- an idle handler that ran
-abbrev pub IsIdle : Act → Type 0
-IsIdle (Dispatch n now route) = ⊥
-IsIdle (Idle i k) = Unit {0}
-IsIdle (Event f e m) = ⊥
-IsIdle (Vsync s) = ⊥
-IsIdle (Paint g v) = ⊥
+abbrev pub IsIdleAct : Act → Type 0
+IsIdleAct (Dispatch n now route) = ⊥
+IsIdleAct (Idle i k) = Unit {0}
+IsIdleAct (Event f e m) = ⊥
+IsIdleAct (Vsync s) = ⊥
+IsIdleAct (Paint g v) = ⊥
 
 -- a pulse that was delivered, or a gauge that was painted: what a dispatcher tells itself
 abbrev pub IsOfDispatcher : Act → Type 0

@@ -39,7 +39,7 @@ pub record TookOfPool {D : Type 0} (Works : D → Workplace → Type 0) (Awaitin
   pub pass : h.pass.home ≡ pool
   pub node : IsNodeOf pool m
 
--- a part of a looper's run: what is kept is kept, unless memory was wanting the dispatcher rests between two dispatches, and so the looper is over or not
+-- a part of a looper's run: what is kept is kept, unless memory ran out the dispatcher rests between two dispatches, and so the looper is over or not
 pub record GoesThrough {D : Type 0} {O : Type 0} (Works : D → Workplace → Type 0) (source : D → O) (count : D → ℕ) (told : D → Option (List Asked))
     (Awaiting : D → Option ℕ → Type 0) (Passing : D → ℕ → List Entry → List Act → Type 0) (Stands : Holding → Holding → Type 0)
     (unless : Type 0 → Type 0) (before after : D) (l l' : Looping) (over : Bool) : Type 0 where

@@ -9,7 +9,7 @@ use Rattle.looper_run.specs.Holding.{Looping, IsBeside}
 abbrev pub untold : Looping → Looping
 untold l = record l { held = record l.held { journal = record l.held.journal { acts = [] } } }
 
--- the acts were let go, and a part of the queue's history was, unless memory was wanting
+-- the acts were let go, and a part of the queue's history was, unless memory ran out
 abbrev pub LetsGo : Result (Unit {0}) NoMemory → Looping → Looping → Type 0
 LetsGo (Ok done) before after = ((part : Segment) × SealedBy before.held.poster after.held.poster (Ok part)) × IsBeside (untold before) after
 LetsGo (Err e) before after = SealedBy before.held.poster after.held.poster (Err e) × IsBeside (untold before) after

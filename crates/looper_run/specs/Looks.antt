@@ -12,7 +12,7 @@ use Rattle.looper_run.specs.declared.looper.Round.TheVariants as round
 use Rattle.looper_run.specs.declared.step.Step.{Step}
 use Rattle.looper_run.specs.declared.step.Step.TheVariants as step
 use Rattle.looper_run.specs.Holding.{Sender, Holding, Looping}
-use Rattle.looper_run.specs.Acts.{IsIdle, GrowsBy}
+use Rattle.looper_run.specs.Acts.{IsIdleAct, GrowsBy}
 use Rattle.looper_run.specs.Asked.{Listening, TellsOf, any_heard}
 use Rattle.looper_run.specs.Tests.{IsLent, Test, Passes}
 use Rattle.looper_run.specs.Told.{Dispatches, GivesBack, AreRecycled}
@@ -59,7 +59,7 @@ pub record HasIdled (now : ℕ) (before after : Looping) : Type 0 where
   pub look : NextedBy before.held.poster after.held.poster now before.idle_owed nexted.Idle
   pub pass : after.held.pass ≡ before.held.pass
   pub looper : after.held.journal.looper ≡ before.held.journal.looper
-  pub ran : GrowsBy IsIdle before.held.journal.acts after.held.journal.acts
+  pub ran : GrowsBy IsIdleAct before.held.journal.acts after.held.journal.acts
   pub idle_owed : after.idle_owed ≡ false
 
 -- a look answered that the looper is to wait, and that is all
@@ -82,13 +82,13 @@ pub record HasEnded (now : ℕ) (before after : Looping) : Type 0 where
   pub journal : after.held.journal ≡ before.held.journal
   pub idle_owed : after.idle_owed ≡ before.idle_owed
 
--- memory was wanting after a look: for the dispatch of the message that it took, which was recycled, or for an idle handler
+-- memory ran out after a look: for the dispatch of the message that it took, which was recycled, or for an idle handler
 abbrev pub GivesUp : ℕ → Looping → Looping → Type 0
 GivesUp now before after =
     ((looked : Sender) × (number : ℕ) × (moment : ℕ) × (node : Node)
     × NextedBy before.held.poster looked now before.idle_owed (nexted.Taken number moment node) × GivesBack (looked_by before.held looked) after.held node)
     ⊎ (NextedBy before.held.poster after.held.poster now before.idle_owed nexted.Idle × (after.held.pass ≡ before.held.pass)
-    × GrowsBy IsIdle before.held.journal.acts after.held.journal.acts)
+    × GrowsBy IsIdleAct before.held.journal.acts after.held.journal.acts)
 
 -- one look, and what came of it
 abbrev pub StepBy : ℕ → Looping → Looping → Step → Type 0
@@ -113,14 +113,14 @@ Looked now (true ∷ looks) before after = (between : Looping) × Looked now loo
 Looked now (false ∷ looks) before after = (between : Looping) × Looked now looks before between × HasIdled now between after
 
 -- how many of the looks dispatched a message
-abbrev pub dispatched_in : List Bool → ℕ
-dispatched_in [] = 0
-dispatched_in (true ∷ looks) = suc (dispatched_in looks)
-dispatched_in (false ∷ looks) = dispatched_in looks
+abbrev pub dispatching_looks : List Bool → ℕ
+dispatching_looks [] = 0
+dispatching_looks (true ∷ looks) = suc (dispatching_looks looks)
+dispatching_looks (false ∷ looks) = dispatching_looks looks
 
 -- so many messages were dispatched, with idle turns in between
 abbrev pub LooksUntil : ℕ → Looping → ℕ → Looping → Type 0
-LooksUntil now before count after = (looks : List Bool) × Looked now looks before after × (dispatched_in looks ≡ count)
+LooksUntil now before count after = (looks : List Bool) × Looked now looks before after × (dispatching_looks looks ≡ count)
 
 -- looks, to the last one that is answered so
 abbrev pub DrainBy : ℕ → Looping → Looping → Round → Type 0
@@ -139,7 +139,7 @@ pub record IsBegun (called : List Listening → Type 0) (before after : Looping)
   pub told : TellsOf called left.journal.acts after.held.journal.acts
   pub idle_owed : after.idle_owed ≡ before.idle_owed
 
--- a round: it began, and then it looked for messages, unless memory was wanting before; unless memory was wanting, this holds of what the listeners were asked
+-- a round: it began, and then it looked for messages, unless memory ran out before; unless memory ran out, this holds of what the listeners were asked
 abbrev pub IsRound : (List Listening → Type 0) → ℕ → Looping → Looping → Round → Type 0
 IsRound called now before after (round.Drained dispatched until) =
     (start : Looping) × IsBegun called before start × DrainBy now start after (round.Drained dispatched until)

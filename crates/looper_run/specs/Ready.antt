@@ -9,7 +9,7 @@ use Rattle.message_slot.specs.Fields.{callback_of}
 use Rattle.message_pool.specs.Passes.{Claimed, Node}
 use Rattle.shared_queue.specs.Known.{Shared}
 use Rattle.looper_run.specs.Holding.{Holding, Looping, Workplace, workplace, IsAt}
-use Rattle.looper_run.specs.Tests.{Passes, PassesWith, HasTaken, SawClaim, IsUntouched}
+use Rattle.looper_run.specs.Tests.{Passes, PassesWith, HasTakenMessage, SawClaim, IsUntouched}
 use Rattle.looper_run.specs.Told.{IsRouteOf}
 
 -- between two dispatches: the dispatcher awaits none, and its test is true of the looper
@@ -34,7 +34,7 @@ pub record HasToDispatch {D : Type 0} (Works : D → Workplace → Type 0) (Awai
     (d : D) (h : Holding) (n : ℕ) (m : Node) (now : ℕ) : Type 0 where
   pub serves : Works d (workplace h)
   pub awaits : Awaiting d None
-  pub taken : HasTaken (Passing d) h m now
+  pub taken : HasTakenMessage (Passing d) h m now
   pub number : n ≡ number_in m.item
   pub claim : slice_get h.poster.view.claims n ≡ Some m.claim
 
@@ -44,7 +44,7 @@ pub record HasToRoute {D : Type 0} (Works : D → Workplace → Type 0) (Awaitin
   pub serves : Works d (workplace h)
   pub awaits : Awaiting d (Some (number_in m.item))
   pub took : SawClaim (Holds d) h.poster m
-  pub taken : HasTaken (Passing d) h m now
+  pub taken : HasTakenMessage (Passing d) h m now
   pub callback : callback_of m.item ≡ by
 
 -- the message went by this route: none is awaited, and the test is true once that is told
@@ -65,4 +65,4 @@ pub record LeavesTaken {D : Type 0} (Awaiting : D → Option ℕ → Type 0) (Ho
   pub awaits : Awaiting after (Some (number_in m.item))
   pub took : (claim : Option Claimed) → Holds before claim → Holds after claim
   pub untouched : IsUntouched h h'
-  pub taken : HasTaken (Passing after) h' m now
+  pub taken : HasTakenMessage (Passing after) h' m now

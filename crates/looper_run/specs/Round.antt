@@ -13,7 +13,7 @@ use Rattle.looper_run.specs.declared.looper.Round.TheVariants as round
 use Rattle.looper_run.specs.declared.step.Step.{Step}
 use Rattle.looper_run.specs.declared.step.Step.TheVariants as step
 use Rattle.looper_run.specs.Holding.{Sender, Holding}
-use Rattle.looper_run.specs.Acts.{taken_by, AreLooksAt}
+use Rattle.looper_run.specs.Acts.{taken_messages, AreLooksAt}
 use Rattle.loop_model.specs.Dispatches.{dispatches}
 use Rattle.looper_run.specs.Tests.{IsSameLooper}
 
@@ -25,7 +25,7 @@ pub record Works (s : Setting) (now : ℕ) (before after : Holding) (count : ℕ
   pub did : List Act
   pub seen : after.poster.view.seen ≡ before.poster.view.seen ++ more
   pub acts : after.journal.acts ≡ before.journal.acts ++ did
-  pub told : dispatches did ≡ taken_by before.poster.sender more
+  pub told : dispatches did ≡ taken_messages before.poster.sender more
   pub count_is : length (dispatches did) ≡ count
   pub looks : AreLooksAt s before.poster.sender now before.poster.view.seen more
 
@@ -49,13 +49,13 @@ is_ended (round.Drained dispatched until) = false
 is_ended (round.Ended dispatched) = true
 is_ended round.NoMemory = false
 
--- what holds unless memory was wanting
+-- what holds unless memory ran out
 abbrev pub UnlessWanting : Round → Type 0 → Type 0
 UnlessWanting (round.Drained dispatched until) P = P
 UnlessWanting (round.Ended dispatched) P = P
 UnlessWanting round.NoMemory P = Unit {0}
 
--- what holds unless memory was wanting
+-- what holds unless memory ran out
 abbrev pub UnlessStopped : Step → Type 0 → Type 0
 UnlessStopped step.Dispatched P = P
 UnlessStopped step.Idled P = P

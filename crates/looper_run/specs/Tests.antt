@@ -55,7 +55,7 @@ pub record IsTake (sender now number : ℕ) (e : Entry) : Type 0 where
   pub reply : e.reply ≡ Dispatched number
 
 -- the last entry that was seen took this message at this moment, and the test is true of what was seen before it
-pub record HasTaken (M : Test) (h : Holding) (m : Node) (now : ℕ) : Type 0 where
+pub record HasTakenMessage (M : Test) (h : Holding) (m : Node) (now : ℕ) : Type 0 where
   pub past : List Entry
   pub take : Entry
   pub seen : h.poster.view.seen ≡ past ++ take ∷ []
@@ -67,7 +67,7 @@ pub record HasTaken (M : Test) (h : Holding) (m : Node) (now : ℕ) : Type 0 whe
 abbrev pub PassesWith : Test → Holding → Node → ℕ → Route → Type 0
 PassesWith M h m now route = M h.poster.sender h.poster.view.seen (h.journal.acts ++ Dispatch (number_in m.item) now route ∷ [])
 
--- what holds unless memory was wanting
+-- what holds unless memory ran out
 abbrev pub Unless : Did → Type 0 → Type 0
 Unless Yes P = P
 Unless No P = P

@@ -6,7 +6,7 @@ use Rattle.loop_model.specs.declared.journal.Route.TheVariants.{Callback, Interc
 use Rattle.message_slot.specs.Letter.{number_in}
 use Rattle.message_slot.specs.Fields.{callback_of}
 use Rattle.message_pool.specs.Passes.{Node, Tally}
-use Rattle.message_pool.specs.Obtain.{Returned}
+use Rattle.message_pool.specs.Obtain.{IsReturned}
 use Rattle.looper_run.specs.Holding.{Holding}
 use Rattle.looper_run.specs.Tests.{IsLent}
 
@@ -33,17 +33,17 @@ pub record IsRecycled (before after : Holding) (m : Node) : Type 0 where
   pub poster : after.poster ≡ before.poster
   pub journal : after.journal ≡ before.journal
   pub home : after.pass.home ≡ before.pass.home
-  pub returned : Returned m.claim before.pass after.pass
+  pub returned : IsReturned m.claim before.pass after.pass
 
 -- the message was dispatched, told, and then recycled
 abbrev pub Dispatches : Holding → Holding → Node → ℕ → Type 0
 Dispatches before after m now = (told : Holding) × IsTold before told m now × IsRecycled told after m
 
--- memory was wanting in the dispatch of the message, which was recycled all the same
+-- memory ran out in the dispatch of the message, which was recycled all the same
 abbrev pub GivesBack : Holding → Holding → Node → Type 0
 GivesBack before after m = (left : Holding) × IsLent before left × IsRecycled left after m
 
 -- the messages were recycled, one after another
 abbrev pub AreRecycled : List Node → Tally → Tally → Type 0
 AreRecycled [] before after = after ≡ before
-AreRecycled (m ∷ more) before after = (between : Tally) × (between.home ≡ before.home) × Returned m.claim before between × AreRecycled more between after
+AreRecycled (m ∷ more) before after = (between : Tally) × (between.home ≡ before.home) × IsReturned m.claim before between × AreRecycled more between after

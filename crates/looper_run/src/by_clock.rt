@@ -4,7 +4,7 @@ ghost use Rattle.looper_run.specs.Asked.{Listen, with_asked, AsksByLoop};
 ghost use Rattle.looper_run.specs.Carried.{CarriesOver, KeepsLooper, unasked};
 ghost use Rattle.looper_run.specs.Ready.{RestsBetween, ServesBetween, MayRun};
 ghost use Rattle.looper_run.specs.Going.{MayLoop, GoesThrough};
-ghost use Rattle.looper_run.specs.Loops.{IsStill, HasPaced, pace_of, UnlessHalted, IsClosed, IsLoop, LoopBy, is_over, UnlessLost, LoopsOrGoes, StepsOrGoes};
+ghost use Rattle.looper_run.specs.Loops.{IsStill, HasPaced, pace_of, UnlessHalted, IsClosed, IsLoop, LoopBy, has_ended_looper, UnlessLost, LoopsOrGoes, StepsOrGoes};
 ghost use Rattle.looper_run.specs.Loops.{IsLoopOrGoes, UnlessLostThen, is_over_then, is_spent, one_less, AnswersWait, Pauses, loop_of};
 
 use crate::dispatcher::Dispatcher;
@@ -143,7 +143,7 @@ impl<E: Recorder, P: Payload> Looper<E, P> {
         ensures loops { LoopBy (C.shows by.now.clock.now) by.now.start by.now.cap queue.now.constants.setting self.old.held self.new.held result }
         ensures steps { IsLoop (AsksByLoop (D.asked d.old) (D.asked d.new)) (C.shows by.now.clock.now) by.now.start by.now.cap self.old self.new result }
         ensures rests { UnlessLost result (RestsBetween D.Awaits D.Meets d.new self.new.held) }
-        ensures ended { self.new.ended ≡ is_over result }
+        ensures ended { self.new.ended ≡ has_ended_looper result }
     {
         match self.run(rt, queue, pool, sources, d, by, None) {
             Some(ended) => ended,

@@ -26,7 +26,7 @@ pub(crate) fn tell(journal: &mut Journal, act: Act) -> Result<(), NoMemory>
     Ok(())
 }
 
-// The handler's callback object, or else the handler. None where memory was wanting.
+// The handler's callback object, or else the handler. None where memory ran out.
 fn offer<D: Dispatcher>(
     d: &mut D,
     own: &mut Own<D::Record, D::Value>,
@@ -47,7 +47,7 @@ fn offer<D: Dispatcher>(
     }
 }
 
-// The callback of the message where it has one, else the handler with its callback object. None where memory was wanting.
+// The callback of the message where it has one, else the handler with its callback object. None where memory ran out.
 fn route<D: Dispatcher>(
     d: &mut D,
     own: &mut Own<D::Record, D::Value>,

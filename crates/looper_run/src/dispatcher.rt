@@ -9,7 +9,7 @@ ghost use Rattle.message_slot.specs.Letter.{number_in};
 ghost use Rattle.message_pool.specs.Passes.{Claimed};
 ghost use Rattle.message_pool.specs.Values.{without_value};
 ghost use Rattle.looper_run.specs.Holding.{Workplace, held};
-ghost use Rattle.looper_run.specs.Acts.{IsQuiet};
+ghost use Rattle.looper_run.specs.Acts.{IsQuietAct};
 ghost use Rattle.looper_run.specs.Asked.{Asked, Pulse, Listen, with_asked};
 ghost use Rattle.looper_run.specs.Carried.{Carries, KeepsLent, unasked, unawaited};
 ghost use Rattle.looper_run.specs.Ready.{ServesBetween, RestsBetween, HasToRoute, HasRouted, LeavesTaken};
@@ -85,7 +85,7 @@ pub trait Dispatcher {
         ensures rests { Unless result (RestsBetween Awaits Meets self.new (held own.new)) };
 
     /// Tells a listener of the events on a descriptor, and answers its new mask: INPUT 1, OUTPUT 2, ERROR 4, and with 0 it
-    /// is told no more. None where memory was wanting, and then the run is given up.
+    /// is told no more. None where memory ran out, and then the run is given up.
     fn listen(&mut self, fd: u32, events: u32, listener: u32) -> Option<u32>
         ensures mask { IfSome result (λ mask. mask ≤ 7) }
         ensures asked { IfSome result (λ mask. asked self.new ≡ with_asked (asked self.old)
@@ -93,7 +93,7 @@ pub trait Dispatcher {
         ensures carries { Carries Serves origin nudges unasked Awaits Meets self.old self.new };
 
     /// Runs the idle handler of this number, and answers whether it is kept (`queueIdle` of the Android API reference's
-    /// `MessageQueue.IdleHandler`); `keep` is what it was added with. None where memory was wanting, and then the run is given up.
+    /// `MessageQueue.IdleHandler`); `keep` is what it was added with. None where memory ran out, and then the run is given up.
     fn idle(&mut self, id: u32, keep: bool) -> Option<bool>
         ensures carries { Carries Serves origin nudges asked Awaits Meets self.old self.new };
 
@@ -140,5 +140,5 @@ pub trait Dispatcher {
         → e.sender ≡ s → e.call ≡ Next now → e.reply ≡ Disposed → Meets d s es acts → Meets d s (es ++ e ∷ []) acts };
 
     /// It stays true where an idle handler ran, or a listener was told of an event.
-    ghost quiet: { (d : Self) (s : ℕ) (es : List Entry) (a : Act) (acts : List Act) → IsQuiet a → Meets d s es acts → Meets d s es (acts ++ a ∷ []) };
+    ghost quiet: { (d : Self) (s : ℕ) (es : List Entry) (a : Act) (acts : List Act) → IsQuietAct a → Meets d s es acts → Meets d s es (acts ++ a ∷ []) };
 }

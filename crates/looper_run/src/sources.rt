@@ -1,6 +1,6 @@
 //! What a looper shares with other threads beside its queue, and what it does with it.
 ghost use Rattle.std.specs.Prelude.{◌≡◌, map, OnOk};
-ghost use Rattle.looper_run.specs.Acts.{IsIdle, GrowsBy};
+ghost use Rattle.looper_run.specs.Acts.{IsIdleAct, GrowsBy};
 ghost use Rattle.looper_run.specs.Asked.{Listen, with_asked, TellsOf};
 ghost use Rattle.looper_run.specs.Carried.{TellsOn, unasked};
 
@@ -27,7 +27,7 @@ fn run_turns<R: Wait, D: Dispatcher>(
     d: &mut D,
     turns: &[IdleTurn],
 ) -> Result<(), NoMemory>
-    ensures tells { TellsOn (GrowsBy IsIdle) D.Serves D.origin D.nudges D.asked D.Awaits D.Meets d.old d.new journal.old journal.new }
+    ensures tells { TellsOn (GrowsBy IsIdleAct) D.Serves D.origin D.nudges D.asked D.Awaits D.Meets d.old d.new journal.old journal.new }
 {
     for turn in turns {
         let Some(kept) = d.idle(turn.id, turn.keep) else {
@@ -46,7 +46,7 @@ pub(crate) fn run_idle<R: Wait, D: Dispatcher>(
     journal: &mut Journal,
     d: &mut D,
 ) -> Result<(), NoMemory>
-    ensures tells { TellsOn (GrowsBy IsIdle) D.Serves D.origin D.nudges D.asked D.Awaits D.Meets d.old d.new journal.old journal.new }
+    ensures tells { TellsOn (GrowsBy IsIdleAct) D.Serves D.origin D.nudges D.asked D.Awaits D.Meets d.old d.new journal.old journal.new }
 {
     let turns = sources.lock(rt).idle.turns();
     run_turns(rt, sources, journal, d, turns?.as_slice())

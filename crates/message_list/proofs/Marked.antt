@@ -7,10 +7,10 @@ use denote.RawPtr.{Ptr}
 use Rattle.message_list.specs.declared.group.Mark.{Mark}
 use Rattle.message_list.specs.declared.group.Group.{Group}
 use Rattle.message_list.specs.declared.place.Place.{Place}
-use Rattle.message_list.specs.Links.{Placed, places_of, HasOneMore}
+use Rattle.message_list.specs.Links.{PlacedNode, places_of, HasOneMore}
 use Rattle.message_list.specs.Store.{Holds}
 use Rattle.message_list.specs.declared.marks.Marks.{Marks}
-use Rattle.message_list.specs.Marks.{gaps, counts, LeadsTo, LeadFrom, IsGroupAt, AreGroupsAt, IsSame, IsSound, Lead, with_node}
+use Rattle.message_list.specs.Marks.{gaps, counts, LeadsTo, LeadFrom, IsGroupAt, AreGroupsAt, IsSame, AreMarksSound, Lead, with_node}
 
 -- ---- where the nodes lie
 
@@ -345,7 +345,7 @@ module _ (f : ℕ) (places : List Ptr) where
 
 -- ---- where a list's marks are
 
-pub same_lead : (old new : Marks) (places : List Ptr) → IsSame old new → IsSound new → Lead old places → Lead new places
+pub same_lead : (old new : Marks) (places : List Ptr) → IsSame old new → AreMarksSound new → Lead old places → Lead new places
 same_lead old new places same sound lead = (
   sound,
   subst (λ (f : ℕ). AreGroupsAt f places new.start new.groups.items) (sym same.0)
@@ -359,18 +359,18 @@ sound_set start near base gs g le is = let long = long_set gs near g in (omega (
 -- ---- nodes and places
 
 module _ {X : Type 0} where
-  pub place_held : (cs : List (Placed X)) (k : ℕ) (p : Ptr) → Holds cs k p → get_elem? (places_of cs) k ≡ just p
+  pub place_held : (cs : List (PlacedNode X)) (k : ℕ) (p : Ptr) → Holds cs k p → get_elem? (places_of cs) k ≡ just p
   place_held [] k p h = absurd (some-ne-none (p, h.0) (sym h.1))
-  place_held (c ∷ cs) zero p h = ap (λ (d : Placed X). just d.0) (some-injective c (p, h.0) h.1)
+  place_held (c ∷ cs) zero p h = ap (λ (d : PlacedNode X). just d.0) (some-injective c (p, h.0) h.1)
   place_held (c ∷ cs) (suc k) p h = place_held cs k p h
 
-  pub held_place : (cs : List (Placed X)) (k : ℕ) (p : Ptr) → get_elem? (places_of cs) k ≡ just p → Holds cs k p
+  pub held_place : (cs : List (PlacedNode X)) (k : ℕ) (p : Ptr) → get_elem? (places_of cs) k ≡ just p → Holds cs k p
   held_place [] k p e = absurd (some-ne-none p (sym e))
   held_place (c ∷ cs) zero p e = (c.1, ap (λ (q : Ptr). just (q, c.1)) (some-injective c.0 p e))
   held_place (c ∷ cs) (suc k) p e = held_place cs k p e
 
-  pub many_places : (cs : List (Placed X)) → length (places_of cs) ≡ length cs
+  pub many_places : (cs : List (PlacedNode X)) → length (places_of cs) ≡ length cs
   many_places cs = length-map cs (λ d. d.0)
 
-  pub one_longer : (i : ℕ) (few many : List (Placed X)) → HasOneMore i few many → length many ≡ length few + 1
+  pub one_longer : (i : ℕ) (few many : List (PlacedNode X)) → HasOneMore i few many → length many ≡ length few + 1
   one_longer i few many h = let a = many_places few in let b = many_places many in let c = ap length h.1 in let d = long_more (places_of few) i h.0 in omega arith

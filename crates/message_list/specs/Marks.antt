@@ -64,12 +64,12 @@ IsCutInto old new second =
     (λ g. IsGroupAt f places n new × IsGroupAt f places (n + new.count) g × (old.count ≡ new.count + g.count))
 
 -- the number of the group `near` is right, and the marks begin before the list's first node
-abbrev pub IsSound : Marks → Type 0
-IsSound ms = (ms.start < ms.first) × (ms.near ≤ length ms.groups.items) × (ms.base ≡ ms.start + counts (take ms.near ms.groups.items))
+abbrev pub AreMarksSound : Marks → Type 0
+AreMarksSound ms = (ms.start < ms.first) × (ms.near ≤ length ms.groups.items) × (ms.base ≡ ms.start + counts (take ms.near ms.groups.items))
 
 -- the marks lead to their nodes
 abbrev pub Lead : Marks → List Ptr → Type 0
-Lead ms places = IsSound ms × AreGroupsAt ms.first places ms.start ms.groups.items
+Lead ms places = AreMarksSound ms × AreGroupsAt ms.first places ms.start ms.groups.items
 
 -- the marks are as they were
 abbrev pub IsSame : Marks → Marks → Type 0
@@ -86,8 +86,8 @@ IsPassed ms far k left =
     × (k < length ms.groups.items → (d : Group) → left < (get_or ms.groups.items k d).count)
 
 -- the last of the marks that lies no more than `far` behind the first is that of the place k, and lies `left` less far
-abbrev pub IsFound : List Mark → ℕ → ℕ → ℕ → Type 0
-IsFound ms far k left = (k ≤ length ms) × (far ≡ gaps (take k ms) + left) × (k < length ms → (d : Mark) → left < (get_or ms k d).gap)
+abbrev pub IsMarkFound : List Mark → ℕ → ℕ → ℕ → Type 0
+IsMarkFound ms far k left = (k ≤ length ms) × (far ≡ gaps (take k ms) + left) × (k < length ms → (d : Mark) → left < (get_or ms k d).gap)
 
 -- before the place i of these, which are `len` many, something was taken out, and there lies now p, if anything does
 abbrev pub IsBehind : List Ptr → ℕ → ℕ → Ptr → Type 0

@@ -1,7 +1,7 @@
 //! A group of marks.
 ghost use Rattle.std.specs.Prelude.{◌≡◌, ℕ, ◌+◌, ◌<◌, ◌≤◌, List, length, take, true, IfSome, MatchOption};
 ghost use denote.RawPtr.{Ptr};
-ghost use Rattle.message_list.specs.Marks.{gaps, LeadsTo, IsGroupAt, IsFound, Widens, Narrows, LeadsWith, IsCutInto};
+ghost use Rattle.message_list.specs.Marks.{gaps, LeadsTo, IsGroupAt, IsMarkFound, Widens, Narrows, LeadsWith, IsCutInto};
 
 use crate::place::Place;
 use std::alloc::Global;
@@ -85,7 +85,7 @@ impl Group {
     /// there are.
     #[inline(always)]
     fn find(&self, far: usize) -> (usize, usize)
-        ensures { IsFound self.now.list.items far result.0 result.1 }
+        ensures { IsMarkFound self.now.list.items far result.0 result.1 }
     {
         let mut left = far;
         let mut mark = 0;

@@ -3,7 +3,7 @@ ghost use Rattle.std.specs.Prelude.{◌≡◌, ℕ, ◌+◌, ◌<◌, ◌≤◌,
 ghost use denote.RawPtr.{Ptr};
 ghost use mathlib.Core.Option.{some};
 ghost use lib.ListN.{get_elem?};
-ghost use Rattle.message_list.specs.Marks.{IsSound, IsSame, Lead, IsNear, IsPassed, IsBehind, with_node};
+ghost use Rattle.message_list.specs.Marks.{AreMarksSound, IsSame, Lead, IsNear, IsPassed, IsBehind, with_node};
 
 use crate::group::Group;
 use crate::place::Place;
@@ -90,7 +90,7 @@ impl Marks {
     /// A node has come before the node `i`, or behind the last of `len`.
     #[inline(always)]
     pub(crate) fn raise(&mut self, i: usize, len: usize)
-        requires { IsSound self.old }
+        requires { AreMarksSound self.old }
         ensures { (few : List Ptr) (p : Ptr) → len ≡ length few → i ≤ length few → Lead self.old few → Lead self.new (with_node i p few) }
     {
         if i >= len {
@@ -104,7 +104,7 @@ impl Marks {
 
     #[inline(never)]
     fn raise_from(&mut self, i: usize)
-        requires { IsSound self.old }
+        requires { AreMarksSound self.old }
         ensures { (few : List Ptr) (p : Ptr) → i ≤ length few → Lead self.old few → Lead self.new (with_node i p few) }
     {
         let Some(number) = (self.first - 1).checked_add(i) else {
@@ -139,7 +139,7 @@ impl Marks {
     /// The node `i` behind the first has gone, so that `len` are left, and of these the node `i` lies at `next`, if there is one.
     #[inline(never)]
     pub(crate) fn lower(&mut self, i: usize, next: Place, len: usize)
-        requires { IsSound self.old }
+        requires { AreMarksSound self.old }
         ensures { (few : List Ptr) (p : Ptr) → IsBehind few i len next.ptr → Lead self.old (with_node i p few) → Lead self.new few }
     {
         let Some(number) = self.first.checked_add(i) else {
@@ -166,10 +166,10 @@ impl Marks {
     /// Goes to the first group, if the one where it is begins behind this number.
     #[inline(always)]
     fn back(&mut self, number: usize)
-        requires sound { IsSound self.old }
+        requires sound { AreMarksSound self.old }
         requires start { self.old.start ≤ number }
         ensures same { IsSame self.old self.new }
-        ensures sound { IsSound self.new }
+        ensures sound { AreMarksSound self.new }
         ensures start { self.new.base ≤ number }
     {
         if number < self.base {
@@ -180,10 +180,10 @@ impl Marks {
 
     /// Goes to the group of the last mark that has a number no greater than this, or behind the last group.
     fn go_to(&mut self, number: usize)
-        requires sound { IsSound self.old }
+        requires sound { AreMarksSound self.old }
         requires start { self.old.start ≤ number }
         ensures same { IsSame self.old self.new }
-        ensures sound { IsSound self.new }
+        ensures sound { AreMarksSound self.new }
         ensures near { IsNear number self.new }
     {
         self.back(number);
@@ -196,7 +196,7 @@ impl Marks {
     /// first of that group it is. Where that is behind all, so many as there are.
     #[inline(always)]
     fn pass(&self, far: usize) -> (usize, usize)
-        requires { IsSound self.now }
+        requires { AreMarksSound self.now }
         ensures { IsPassed self.now far result.0 result.1 }
     {
         let mut left = far;
@@ -215,9 +215,9 @@ impl Marks {
     /// Goes to the first group, if the one where it is stands behind this one.
     #[inline(always)]
     fn back_to(&mut self, group: usize)
-        requires { IsSound self.old }
+        requires { AreMarksSound self.old }
         ensures same { IsSame self.old self.new }
-        ensures sound { IsSound self.new }
+        ensures sound { AreMarksSound self.new }
         ensures near { self.new.near ≤ group }
     {
         if group < self.near {
@@ -228,10 +228,10 @@ impl Marks {
 
     /// Goes to this group, and answers whether its first mark has a number.
     fn go_to_group(&mut self, group: usize) -> bool
-        requires sound { IsSound self.old }
+        requires sound { AreMarksSound self.old }
         requires there { group < length self.old.groups.items }
         ensures same { IsSame self.old self.new }
-        ensures sound { IsSound self.new }
+        ensures sound { AreMarksSound self.new }
         ensures there { result ≡ true → self.new.near ≡ group }
     {
         self.back_to(group);
@@ -252,9 +252,9 @@ impl Marks {
     /// Lets the first group go, if all of its marks were passed, and answers whether it did.
     #[inline(always)]
     fn shed_one(&mut self) -> bool
-        requires { IsSound self.old }
+        requires { AreMarksSound self.old }
         ensures first { self.new.first ≡ self.old.first }
-        ensures sound { IsSound self.new }
+        ensures sound { AreMarksSound self.new }
         ensures leads { (places : List Ptr) → Lead self.old places → Lead self.new places }
     {
         if self.groups.len() == 0 {
@@ -273,8 +273,8 @@ impl Marks {
 
     /// Lets those groups go whose marks were all passed.
     fn shed(&mut self)
-        requires { IsSound self.old }
-        ensures sound { IsSound self.new }
+        requires { AreMarksSound self.old }
+        ensures sound { AreMarksSound self.new }
         ensures leads { (places : List Ptr) → Lead self.old places → Lead self.new places }
     {
         for _ in 0..self.groups.len() {
@@ -305,7 +305,7 @@ impl Marks {
     /// Where the node of the last mark lies whose key is no greater than this, and its place in the list, counted from 0; None where
     /// that isn't behind the place `behind`, or there is none.
     pub(crate) fn find(&mut self, key: u64, behind: usize) -> Option<(Place, usize)>
-        requires { IsSound self.old }
+        requires { AreMarksSound self.old }
         ensures kept { (places : List Ptr) → Lead self.old places → Lead self.new places }
         ensures leads { (places : List Ptr) → Lead self.old places → IfSome result (λ r. get_elem? places r.1 ≡ some r.0.ptr) }
     {
@@ -317,7 +317,7 @@ impl Marks {
     }
 
     fn read(&mut self, key: u64, behind: usize) -> Option<(Place, usize)>
-        requires { IsSound self.old }
+        requires { AreMarksSound self.old }
         ensures kept { (places : List Ptr) → Lead self.old places → Lead self.new places }
         ensures leads { (places : List Ptr) → Lead self.old places → IfSome result (λ r. get_elem? places r.1 ≡ some r.0.ptr) }
     {
@@ -349,7 +349,7 @@ impl Marks {
     /// Puts a mark with this key on the node `here`, which lies at `at`.
     #[inline(never)]
     pub(crate) fn put(&mut self, alloc: Global, at: Place, here: usize, key: u64)
-        requires { IsSound self.old }
+        requires { AreMarksSound self.old }
         ensures { (places : List Ptr) → get_elem? places here ≡ some at.ptr → Lead self.old places → Lead self.new places }
     {
         let Some(number) = self.first.checked_add(here) else {
@@ -361,9 +361,9 @@ impl Marks {
 
     /// Makes room for a mark of this number.
     fn make_way(&mut self, alloc: Global, number: usize)
-        requires sound { IsSound self.old }
+        requires sound { AreMarksSound self.old }
         requires start { self.old.start ≤ number }
-        ensures sound { IsSound self.new }
+        ensures sound { AreMarksSound self.new }
         ensures same { (self.new.first ≡ self.old.first) × (self.new.start ≡ self.old.start) }
         ensures leads { (places : List Ptr) → Lead self.old places → Lead self.new places }
     {
@@ -382,7 +382,7 @@ impl Marks {
 
     /// Puts a mark on the node of this number, where it lies behind a mark and there is room.
     fn put_near(&mut self, at: Place, number: usize, key: u64)
-        requires sound { IsSound self.old }
+        requires sound { AreMarksSound self.old }
         requires start { self.old.start ≤ number }
         ensures { (places : List Ptr) (here : ℕ) → number ≡ self.old.first + here → get_elem? places here ≡ some at.ptr → Lead self.old places → Lead self.new places }
     {
@@ -399,8 +399,8 @@ impl Marks {
 
     /// The first mark, which has no node.
     fn begin(&mut self, alloc: Global)
-        requires { IsSound self.old }
-        ensures sound { IsSound self.new }
+        requires { AreMarksSound self.old }
+        ensures sound { AreMarksSound self.new }
         ensures same { (self.new.first ≡ self.old.first) × (self.new.start ≡ self.old.start) }
         ensures leads { (places : List Ptr) → Lead self.old places → Lead self.new places }
     {
@@ -414,8 +414,8 @@ impl Marks {
 
     /// Widens the way behind the last mark, so that it leads over this number.
     fn reach(&mut self, number: usize)
-        requires sound { IsSound self.old }
-        ensures sound { IsSound self.new }
+        requires sound { AreMarksSound self.old }
+        ensures sound { AreMarksSound self.new }
         ensures same { (self.new.first ≡ self.old.first) × (self.new.start ≡ self.old.start) }
         ensures leads { (places : List Ptr) → Lead self.old places → Lead self.new places }
     {
@@ -436,9 +436,9 @@ impl Marks {
 
     /// Cuts the group where it is in two.
     fn split(&mut self, alloc: Global)
-        requires sound { IsSound self.old }
+        requires sound { AreMarksSound self.old }
         requires there { self.old.near < length self.old.groups.items }
-        ensures sound { IsSound self.new }
+        ensures sound { AreMarksSound self.new }
         ensures same { (self.new.first ≡ self.old.first) × (self.new.start ≡ self.old.start) }
         ensures leads { (places : List Ptr) → Lead self.old places → Lead self.new places }
     {
@@ -454,7 +454,7 @@ impl Marks {
     /// Puts this group behind the one where it is.
     fn add(&mut self, group: Group)
         requires { self.old.near < length self.old.groups.items }
-        ensures sound { IsSound self.old → IsSound self.new }
+        ensures sound { AreMarksSound self.old → AreMarksSound self.new }
         ensures same { (self.new.first ≡ self.old.first) × (self.new.start ≡ self.old.start) }
         ensures groups { (self.new.groups.items ≡ []) ⊎ (self.new.groups.items ≡ insert self.old.groups.items (self.old.near + 1) group) }
     {

@@ -6,9 +6,9 @@ use lib.ListN.{get_elem?}
 use Rattle.atomic_table.proofs.Lists.{at_set, at_snoc, set_else}
 use Rattle.message_pool.specs.declared.views.Share.{Share}
 use Rattle.message_pool.specs.declared.views.SeatView.{SeatView}
-use Rattle.message_pool.specs.Shares.{nothing, plus, IsEntire}
-use Rattle.message_pool.specs.Seats.{newcomer, taken_by, back_by, shares_of}
-use Rattle.message_pool.specs.Pool.{IsSound, IsBooked}
+use Rattle.message_pool.specs.Shares.{no_share, plus, IsEntire}
+use Rattle.message_pool.specs.Seats.{newcomer, slots_taken, back_by, shares_of}
+use Rattle.message_pool.specs.Pool.{IsSeatSound, IsBooked}
 use Rattle.message_pool.proofs.Fractions.{nothing_more, plus_left, zero_factor, product_above}
 
 -- who has no share counted nothing
@@ -16,7 +16,7 @@ abbrev pub IsQuiet : Share → ℕ → ℕ → Type 0
 IsQuiet s taken back = (0 < s.whole) × (s.parts ≡ 0 → (taken ≡ 0) × (back ≡ 0))
 
 abbrev AreSound : List SeatView → Type 0
-AreSound vs = (id : ℕ) (v : SeatView) → get_elem? vs id ≡ some v → IsSound v
+AreSound vs = (id : ℕ) (v : SeatView) → get_elem? vs id ≡ some v → IsSeatSound v
 
 pub both_quiet : (s t : Share) (a b c d : ℕ) → IsQuiet s a b → IsQuiet t c d → IsQuiet (plus s t) (a + c) (b + d)
 both_quiet s t a b c d q r = (
@@ -27,14 +27,14 @@ both_quiet s t a b c d q r = (
       (omega (arith, one.0, two.0), omega (arith, one.1, two.1)),
 )
 
-all_quiet : (vs : List SeatView) → AreSound vs → IsQuiet (shares_of vs) (taken_by vs) (back_by vs)
+all_quiet : (vs : List SeatView) → AreSound vs → IsQuiet (shares_of vs) (slots_taken vs) (back_by vs)
 all_quiet [] sound = (omega arith, λ _. (refl, refl))
-all_quiet (v ∷ vs) sound = both_quiet v.share (shares_of vs) v.taken v.back (taken_by vs) (back_by vs) (sound 0 v refl) (all_quiet vs (λ id w e. sound (suc id) w e))
+all_quiet (v ∷ vs) sound = both_quiet v.share (shares_of vs) v.taken v.back (slots_taken vs) (back_by vs) (sound 0 v refl) (all_quiet vs (λ id w e. sound (suc id) w e))
 
 -- what the seats together have where this view stands at that place
 record Stands (vs : List SeatView) (w : SeatView) (share : Share) (taken back : ℕ) : Type 0 where
   pub shares : shares_of vs ≡ plus w.share share
-  pub taken_is : taken_by vs ≡ w.taken + taken
+  pub taken_is : slots_taken vs ≡ w.taken + taken
   pub back_is : back_by vs ≡ w.back + back
 
 -- what all other seats have
@@ -57,10 +57,10 @@ others : (id : ℕ) (vs : List SeatView) (v : SeatView) → get_elem? vs id ≡ 
 others id [] v e = absurd (some-ne-none v (sym e))
 others zero (x ∷ xs) v e = record {
   share = shares_of xs;
-  taken = taken_by xs;
+  taken = slots_taken xs;
   back = back_by xs;
   quiet = λ sound. all_quiet xs (λ j w at. sound (suc j) w at);
-  was = subst (λ (y : SeatView). Stands (x ∷ xs) y (shares_of xs) (taken_by xs) (back_by xs)) (some-injective x v e) record { shares = refl; taken_is = refl; back_is = refl };
+  was = subst (λ (y : SeatView). Stands (x ∷ xs) y (shares_of xs) (slots_taken xs) (back_by xs)) (some-injective x v e) record { shares = refl; taken_is = refl; back_is = refl };
   becomes = λ w. record { shares = refl; taken_is = refl; back_is = refl };
 }
 others (suc id) (x ∷ xs) v e = let r = others id xs v e in record {
@@ -73,18 +73,18 @@ others (suc id) (x ∷ xs) v e = let r = others id xs v e in record {
 }
 
 -- one seat more
-one_more : (vs : List SeatView) (w : SeatView) → Stands (vs ++ w ∷ []) w (shares_of vs) (taken_by vs) (back_by vs)
+one_more : (vs : List SeatView) (w : SeatView) → Stands (vs ++ w ∷ []) w (shares_of vs) (slots_taken vs) (back_by vs)
 one_more [] w = record { shares = refl; taken_is = refl; back_is = refl }
-one_more (x ∷ xs) w = one_on x w (xs ++ w ∷ []) (shares_of xs) (taken_by xs) (back_by xs) (one_more xs w)
+one_more (x ∷ xs) w = one_on x w (xs ++ w ∷ []) (shares_of xs) (slots_taken xs) (back_by xs) (one_more xs w)
 
-sound_set : (vs : List SeatView) (id : ℕ) (w : SeatView) → AreSound vs → IsSound w → AreSound (set vs id w)
-sound_set vs id w sound fine j u at = ⊎_elim (λ here. subst IsSound here.1 fine) (λ there. sound j u there.1) (at_set vs id j w u at)
+sound_set : (vs : List SeatView) (id : ℕ) (w : SeatView) → AreSound vs → IsSeatSound w → AreSound (set vs id w)
+sound_set vs id w sound fine j u at = ⊎_elim (λ here. subst IsSeatSound here.1 fine) (λ there. sound j u there.1) (at_set vs id j w u at)
 
-sound_more : (vs : List SeatView) (w : SeatView) → AreSound vs → IsSound w → AreSound (vs ++ w ∷ [])
-sound_more vs w sound fine j u at = ⊎_elim (λ there. sound j u there) (λ here. subst IsSound here fine) (at_snoc vs w u j at)
+sound_more : (vs : List SeatView) (w : SeatView) → AreSound vs → IsSeatSound w → AreSound (vs ++ w ∷ [])
+sound_more vs w sound fine j u at = ⊎_elim (λ there. sound j u there) (λ here. subst IsSeatSound here fine) (at_snoc vs w u j at)
 
 -- a seat takes a slot, or gives one back, or neither
-pub booked_step : (n m : ℕ) (vs : List SeatView) (id : ℕ) (v w : SeatView) → get_elem? vs id ≡ some v → IsBooked n vs → w.share ≡ v.share → IsSound w
+pub booked_step : (n m : ℕ) (vs : List SeatView) (id : ℕ) (v w : SeatView) → get_elem? vs id ≡ some v → IsBooked n vs → w.share ≡ v.share → IsSeatSound w
     → (count_ones m + w.taken) + v.back ≡ (count_ones n + v.taken) + w.back → IsBooked m (set vs id w)
 booked_step n m vs id v w at b same fine move =
     let o = others id vs v at in let now = o.becomes w in record {
@@ -94,7 +94,7 @@ booked_step n m vs id v w at b same fine move =
     }
 
 -- a seat gives some of what it has to a new one
-pub booked_split : (n : ℕ) (vs : List SeatView) (id : ℕ) (v w new : SeatView) → get_elem? vs id ≡ some v → IsBooked n vs → IsSound w → IsSound new
+pub booked_split : (n : ℕ) (vs : List SeatView) (id : ℕ) (v w new : SeatView) → get_elem? vs id ≡ some v → IsBooked n vs → IsSeatSound w → IsSeatSound new
     → w.taken + new.taken ≡ v.taken → w.back + new.back ≡ v.back → ((s : Share) → IsEntire (plus v.share s) → IsEntire (plus new.share (plus w.share s)))
     → IsBooked n (set vs id w ++ new ∷ [])
 booked_split n vs id v w new at b fine good taken back shares =
@@ -106,10 +106,10 @@ booked_split n vs id v w new at b fine good taken back shares =
 
 -- a seat takes in what another has
 pub booked_join : (n : ℕ) (vs : List SeatView) (id : ℕ) (v : SeatView) (other : ℕ) (w both : SeatView) → get_elem? vs id ≡ some v → ¬ (other ≡ id) → get_elem? (set vs id both) other ≡ some w → IsBooked n vs
-    → IsSound both → both.taken ≡ v.taken + w.taken → both.back ≡ v.back + w.back → ((s : Share) → IsEntire (plus w.share (plus v.share s)) → IsEntire (plus both.share s))
-    → IsBooked n (set (set vs id both) other (newcomer nothing))
+    → IsSeatSound both → both.taken ≡ v.taken + w.taken → both.back ≡ v.back + w.back → ((s : Share) → IsEntire (plus w.share (plus v.share s)) → IsEntire (plus both.share s))
+    → IsBooked n (set (set vs id both) other (newcomer no_share))
 booked_join n vs id v other w both at apart at' b fine taken back shares =
-    let gone = newcomer nothing in
+    let gone = newcomer no_share in
     let there : get_elem? vs other ≡ some w = sym (set_else vs id other both apart) ∙ at' in
     let o = others other vs w there in let left = o.becomes gone in
     let here : get_elem? (set vs other gone) id ≡ some v = set_else vs other id gone (λ e. apart (sym e)) ∙ at in

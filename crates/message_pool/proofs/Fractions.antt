@@ -2,12 +2,12 @@
 use Rattle.std.proofs.Common.{◌≡◌, ℕ, ◌+◌, ◌*◌, ◌<◌, ◌≤◌, sym, ap, ◌∙◌, arith}
 use Rattle.std.proofs.Math.Nat.{mul_comm, mul_assoc, mul_right_comm, mul_left_comm, le-mul_of_pos_right, add-mul}
 use Rattle.message_pool.specs.declared.views.Share.{Share}
-use Rattle.message_pool.specs.Shares.{nothing, half, plus, IsEntire}
+use Rattle.message_pool.specs.Shares.{no_share, half, plus, IsEntire}
 
 same_share : (s t : Share) → s.parts ≡ t.parts → s.whole ≡ t.whole → s ≡ t
 same_share s t p w = λ i. record { parts = p i; whole = w i }
 
-pub nothing_more : (s : Share) → plus nothing s ≡ s
+pub nothing_more : (s : Share) → plus no_share s ≡ s
 nothing_more s = same_share _ _ (omega arith) (omega arith)
 
 pub plus_comm : (s t : Share) → plus s t ≡ plus t s

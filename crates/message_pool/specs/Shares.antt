@@ -10,8 +10,8 @@ abbrev pub entire : Share
 entire = share 1 1
 
 -- nothing of it
-abbrev pub nothing : Share
-nothing = share 0 1
+abbrev pub no_share : Share
+no_share = share 0 1
 
 -- half of a share
 abbrev pub half : Share → Share
@@ -26,5 +26,5 @@ abbrev pub IsEntire : Share → Type 0
 IsEntire s = s.parts ≡ s.whole
 
 -- it has some part
-abbrev pub IsPart : Share → Type 0
-IsPart s = (0 < s.parts) × (0 < s.whole)
+abbrev pub HasPart : Share → Type 0
+HasPart s = (0 < s.parts) × (0 < s.whole)

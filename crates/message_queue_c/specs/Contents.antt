@@ -34,8 +34,8 @@ abbrev pub Does : Contents → Contents → Type 0 → (Q → Q → Letters → 
 Does a b refused made = MatchOption a.queue (refused × (b ≡ a)) (λ x. (y : Q) × (b.queue ≡ Some y) × made x y a.dropped b.dropped)
 
 -- it does this to the queue, and drops nothing
-abbrev pub Keeps : (Q → Q → Type 0) → Q → Q → Letters → Letters → Type 0
-Keeps made x y ds es = made x y × (es ≡ ds)
+abbrev pub DropsNone : (Q → Q → Type 0) → Q → Q → Letters → Letters → Type 0
+DropsNone made x y ds es = made x y × (es ≡ ds)
 
 -- the queue goes and drops what is in it, and the blocks go; what its calls had dropped goes where it was closed before
 abbrev pub Closes : Contents → Contents → MqAnswer → Type 0

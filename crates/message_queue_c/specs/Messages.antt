@@ -18,8 +18,8 @@ number_or_0 None = 0
 number_or_0 (Some n) = n
 
 -- the post that the fields name
-abbrev pub post_by : MqMessage → Post
-post_by m = record {
+abbrev pub named_post : MqMessage → Post
+named_post m = record {
   handler = m.handler;
   what = m.what;
   arg = m.arg;
@@ -46,7 +46,7 @@ fields_of p = record {
 
 -- the message that the fields name
 abbrev pub letter_by : MqMessage → Letter NoClaim
-letter_by m = record { item = posted None (post_by m); claim = None }
+letter_by m = record { item = posted None (named_post m); claim = None }
 
 -- the messages that the fields name
 abbrev pub filter_by : MqFilter → Filter

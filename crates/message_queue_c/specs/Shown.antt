@@ -1,7 +1,7 @@
 -- How C sees what a call answers.
 use Rattle.std.specs.Prelude.{◌≡◌, ℕ, Bool, true, false, List, [], Some, None, length}
 use Rattle.loop_model.specs.declared.item.Item.{Item}
-use Rattle.loop_model.specs.declared.item.Item.TheVariants.{Post as Message, Barrier as Fence}
+use Rattle.loop_model.specs.declared.item.Item.TheVariants.{Post as Message, Barrier as SyncBarrier}
 use Rattle.message_slot.specs.declared.claim.NoClaim.{NoClaim}
 use Rattle.message_slot.specs.Letter.{Letter, post_of, blank}
 use Rattle.queue_state.specs.Queue.{Queue}
@@ -125,7 +125,7 @@ HasNotOpen r = r ≡ look_as look_not_open_kind 0 0
 -- what was dropped: a message with its number, or a barrier with its token and its moment
 abbrev pub shown_dropped : Item → MqNext
 shown_dropped (Message n p) = record { message = fields_of p; number = n; time = 0; kind = taken_kind }
-shown_dropped (Fence t w) = look_as barrier_kind t w
+shown_dropped (SyncBarrier t w) = look_as barrier_kind t w
 
 abbrev pub shown_next : Nexted NoClaim (Unit {0}) → MqNext
 shown_next (nexted.Taken n at node) = record { message = fields_of (post_of node.item); number = n; time = at; kind = taken_kind }

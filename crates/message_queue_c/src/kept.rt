@@ -1,7 +1,7 @@
 // What a handle that is not empty keeps: a queue, and the messages that its calls have dropped.
 ghost use Rattle.std.specs.Prelude.{◌≡◌, true, false, [], Some, MatchOption, length};
 ghost use Rattle.queue_state.specs.Queue.{has_match, time_of};
-ghost use Rattle.message_queue_c.specs.Contents.{Does, Keeps, Closes, Pops, Reserves, nothing_in, holds_nothing};
+ghost use Rattle.message_queue_c.specs.Contents.{Does, DropsNone, Closes, Pops, Reserves, nothing_in, holds_nothing};
 ghost use Rattle.message_queue_c.specs.Blocks.{no_blocks, Uses};
 ghost use Rattle.message_queue_c.specs.Messages.{filter_by};
 ghost use Rattle.message_queue_c.specs.Ours.{is_ours};
@@ -51,7 +51,7 @@ impl Kept {
     }
 
     pub(crate) fn post(&mut self, alloc: Global, message: &MqMessage) -> MqAnswer
-        ensures done { Does self.old self.new (IsNotOpen result) (Keeps (λ x y. PostShown x message.now result y)) }
+        ensures done { Does self.old self.new (IsNotOpen result) (DropsNone (λ x y. PostShown x message.now result y)) }
         ensures blocks { Uses 1 self.old.blocks self.new.blocks }
     {
         match &mut self.queue {
@@ -61,7 +61,7 @@ impl Kept {
     }
 
     pub(crate) fn post_barrier(&mut self, alloc: Global, now: u64) -> MqAnswer
-        ensures done { Does self.old self.new (IsNotOpen result) (Keeps (λ x y. BarrierShown x now result y)) }
+        ensures done { Does self.old self.new (IsNotOpen result) (DropsNone (λ x y. BarrierShown x now result y)) }
         ensures blocks { Uses 1 self.old.blocks self.new.blocks }
     {
         match &mut self.queue {
@@ -71,7 +71,7 @@ impl Kept {
     }
 
     pub(crate) fn remove_barrier(&mut self, token: u64) -> MqAnswer
-        ensures done { Does self.old self.new (IsNotOpen result) (Keeps (λ x y. GoneShown x token result y)) }
+        ensures done { Does self.old self.new (IsNotOpen result) (DropsNone (λ x y. GoneShown x token result y)) }
         ensures blocks { Uses 0 self.old.blocks self.new.blocks }
     {
         match &mut self.queue {

@@ -6,7 +6,7 @@ ghost use Rattle.std.specs.Prelude.{◌≡◌, ◌||◌, true, false, MatchOptio
 ghost use Rattle.queue_state.specs.Queue.{has_match, time_of};
 ghost use Rattle.message_queue_c.specs.Blocks.{Uses};
 ghost use Rattle.message_queue_c.specs.Handed.{inside, IsFreed};
-ghost use Rattle.message_queue_c.specs.Contents.{Does, Keeps, Closes, Pops, Reserves, just_opened, nothing_in};
+ghost use Rattle.message_queue_c.specs.Contents.{Does, DropsNone, Closes, Pops, Reserves, just_opened, nothing_in};
 ghost use Rattle.message_queue_c.specs.Messages.{filter_by};
 ghost use Rattle.message_queue_c.specs.Shown.{PostShown, BarrierShown, GoneShown, TakingShown, QuitShown, NextShown, IsNotOpen, HasNotOpen};
 
@@ -68,7 +68,7 @@ pub extern "C" fn msgq_core_post(
     queue: &mut MqQueue,
     message: &MqMessage,
 ) -> MqAnswer
-    ensures done { Does (inside queue.old) (inside queue.new) (IsNotOpen result) (Keeps (λ x y. PostShown x message.now result y)) }
+    ensures done { Does (inside queue.old) (inside queue.new) (IsNotOpen result) (DropsNone (λ x y. PostShown x message.now result y)) }
     ensures blocks { Uses 1 (inside queue.old).blocks (inside queue.new).blocks }
     ensures live { queue.new.live ≡ queue.old.live }
 {
@@ -87,7 +87,7 @@ pub extern "C" fn msgq_core_post_at_front(
     queue: &mut MqQueue,
     message: &MqMessage,
 ) -> MqAnswer
-    ensures done { Does (inside queue.old) (inside queue.new) (IsNotOpen result) (Keeps (λ x y. PostShown x (record message.now { when = 0 }) result y)) }
+    ensures done { Does (inside queue.old) (inside queue.new) (IsNotOpen result) (DropsNone (λ x y. PostShown x (record message.now { when = 0 }) result y)) }
     ensures blocks { Uses 1 (inside queue.old).blocks (inside queue.new).blocks }
     ensures live { queue.new.live ≡ queue.old.live }
 {
@@ -104,7 +104,7 @@ pub extern "C" fn msgq_core_post_at_front(
 /// Posts a barrier at this moment, in milliseconds, and answers its token.
 #[unsafe(no_mangle)]
 pub extern "C" fn msgq_core_barrier(alloc: Global, queue: &mut MqQueue, now: u64) -> MqAnswer
-    ensures done { Does (inside queue.old) (inside queue.new) (IsNotOpen result) (Keeps (λ x y. BarrierShown x now result y)) }
+    ensures done { Does (inside queue.old) (inside queue.new) (IsNotOpen result) (DropsNone (λ x y. BarrierShown x now result y)) }
     ensures blocks { Uses 1 (inside queue.old).blocks (inside queue.new).blocks }
     ensures live { queue.new.live ≡ queue.old.live }
 {
@@ -119,7 +119,7 @@ pub extern "C" fn msgq_core_barrier(alloc: Global, queue: &mut MqQueue, now: u64
 /// Removes the barrier of this token.
 #[unsafe(no_mangle)]
 pub extern "C" fn msgq_core_remove_barrier(queue: &mut MqQueue, token: u64) -> MqAnswer
-    ensures done { Does (inside queue.old) (inside queue.new) (IsNotOpen result) (Keeps (λ x y. GoneShown x token result y)) }
+    ensures done { Does (inside queue.old) (inside queue.new) (IsNotOpen result) (DropsNone (λ x y. GoneShown x token result y)) }
     ensures blocks { Uses 0 (inside queue.old).blocks (inside queue.new).blocks }
     ensures live { queue.new.live ≡ queue.old.live }
 {

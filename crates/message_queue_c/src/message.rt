@@ -1,6 +1,6 @@
 // Messages and filters as C has them.
 ghost use Rattle.std.specs.Prelude.{◌≡◌};
-ghost use Rattle.message_queue_c.specs.Messages.{post_by, fields_of, filter_by, named, number_or_0};
+ghost use Rattle.message_queue_c.specs.Messages.{named_post, fields_of, filter_by, named, number_or_0};
 
 use loop_model::{Filter, Kind, Post};
 
@@ -71,7 +71,7 @@ fn number_or_0(number: Option<u64>) -> u64
 impl MqMessage {
     /// The post that these fields name.
     pub(crate) fn post(&self) -> Post
-        ensures { result ≡ post_by self.now }
+        ensures { result ≡ named_post self.now }
     {
         Post {
             handler: self.handler,

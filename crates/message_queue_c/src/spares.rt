@@ -35,7 +35,7 @@ impl Spares {
         }
     }
 
-    /// A node with this letter: one that was kept, or else a new one. For want of memory the letter comes back.
+    /// A node with this letter: one that was kept, or else a new one. When out of memory the letter comes back.
     #[inline(never)]
     pub(crate) fn node(
         &mut self,

@@ -2,7 +2,7 @@
 ghost use Rattle.std.specs.Prelude.{◌≡◌, Some, None};
 ghost use Rattle.loop_model.specs.Items.{when_of, is_barrier, is_just, matches, token_of as item_token};
 ghost use Rattle.message_slot.specs.Letter.{blank, cleared, posted, numbered, number_in, post_of, slot_by, with_slot};
-ghost use Rattle.message_slot.specs.Fields.{handler_of, what_of, arg_of, obj_of, callback_of, is_sent_asynchronous, token_of};
+ghost use Rattle.message_slot.specs.Fields.{handler_of, what_of, arg_of, obj_of, callback_of, is_sent_asynchronous, token_or_0};
 
 use crate::claim::Claim;
 use loop_model::{Filter, Item, Post};
@@ -199,7 +199,7 @@ impl<K: Claim> Message<K> {
 
     /// The token of a barrier (AOSP keeps it in `arg1`), else 0.
     pub fn token(&self) -> u64
-        ensures { result ≡ token_of self.now.item }
+        ensures { result ≡ token_or_0 self.now.item }
     {
         match &self.item {
             Some(Item::Post { .. }) => 0,

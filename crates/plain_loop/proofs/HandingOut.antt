@@ -4,7 +4,7 @@ use Rattle.std.specs.Prelude.{is_some}
 use Rattle.std.specs.Option.{option_to_list}
 use Rattle.std.proofs.lemmas.List.{append-nil}
 use Rattle.message_pool.specs.Passes.{Claimed, Node, Tally}
-use Rattle.message_pool.specs.Obtain.{Returned}
+use Rattle.message_pool.specs.Obtain.{IsReturned}
 use Rattle.message_pool.specs.Values.{content_of, content_in}
 use Rattle.std.proofs.lemmas.List.Sums.{sum_by-append}
 use Rattle.handler_post.specs.Supply.{slots_in, BringsBack}
@@ -26,14 +26,14 @@ pub passed_none : (start : List Node) (a : Tally) → HavePassed start start a a
 passed_none start a = record { gone = []; parts = refl; none = refl; back = (omega arith, omega arith, omega arith, refl, refl) }
 
 -- a pass that brought one message back
-one_back : (claim : Option Claimed) (a b : Tally) → Returned claim a b
+one_back : (claim : Option Claimed) (a b : Tally) → IsReturned claim a b
     → (b.back ≡ a.back + cond {A = ℕ} (is_some claim) 1 0) × (b.looks ≡ a.looks) × (b.lost ≡ a.lost) × (b.taken ≡ a.taken) × (b.share ≡ a.share)
 one_back None a b same =
     (let e : b.back ≡ a.back = ap (λ (x : Tally). x.back) same in omega (arith, e), ap (λ (x : Tally). x.looks) same, ap (λ (x : Tally). x.lost) same, ap (λ (x : Tally). x.taken) same, ap (λ (x : Tally). x.share) same)
 one_back (Some c) a b one =
     (ap (λ (x : Tally). x.back) one, ap (λ (x : Tally). x.looks) one, ap (λ (x : Tally). x.lost) one, ap (λ (x : Tally). x.taken) one, ap (λ (x : Tally). x.share) one)
 
-brings_more : (gone : List Node) (m : Node) (a b d : Tally) → BringsBack gone a b → Returned m.claim b d → BringsBack (gone ++ m ∷ []) a d
+brings_more : (gone : List Node) (m : Node) (a b d : Tally) → BringsBack gone a b → IsReturned m.claim b d → BringsBack (gone ++ m ∷ []) a d
 brings_more gone m a b d brings back =
     let one = one_back m.claim b d back in
     let size : Node → ℕ = λ (x : Node). cond {A = ℕ} (is_some x.claim) 1 0 in
@@ -61,7 +61,7 @@ none_by None apart = refl
 none_by (Some v) apart = absurd (apart v refl)
 
 -- a message that carries none
-pub passed_more : {P : Type 0} (content : P → List ℕ) (start old rest : List Node) (m : Node) (a b d : Tally) → HavePassed start old a b → old ≡ m ∷ rest → Returned m.claim b d
+pub passed_more : {P : Type 0} (content : P → List ℕ) (start old rest : List Node) (m : Node) (a b d : Tally) → HavePassed start old a b → old ≡ m ∷ rest → IsReturned m.claim b d
     → (r : Option P) → ((v : P) → r ≡ Some v → ⊥) → content_of content r ≡ content_in m.claim → HavePassed start rest a d
 passed_more content start old rest m a b d have is back r apart seen = record {
   gone = have.gone ++ m ∷ [];
@@ -71,7 +71,7 @@ passed_more content start old rest m a b d have is back r apart seen = record {
 }
 
 -- a message that carries a value, beside a fact
-pub handed_value : {P X : Type 0} (content : P → List ℕ) (start old rest : List Node) (m : Node) (a b d : Tally) → HavePassed start old a b → old ≡ m ∷ rest → Returned m.claim b d
+pub handed_value : {P X : Type 0} (content : P → List ℕ) (start old rest : List Node) (m : Node) (a b d : Tally) → HavePassed start old a b → old ≡ m ∷ rest → IsReturned m.claim b d
     → (v : P) → content_of content (Some v) ≡ content_in m.claim → X
     → (gone : List Node) × (start ≡ gone ++ rest) × (contents gone ≡ content v ∷ []) × BringsBack gone a d × X
 handed_value content start old rest m a b d have is back v seen x =

@@ -30,14 +30,14 @@ use Rattle.handler_post.specs.declared.values.SentWith.TheVariants as with
 use Rattle.handler_post.specs.Values.{SendingWith, SendsWith}
 use Rattle.handler_post.specs.Supply.{letter_of, Obtains, ObtainsInVain, BringsBack}
 use Rattle.handler_post.specs.Ways.{IsReady, IsSameWay, MadeNone}
-use Rattle.handler_post.specs.Sends.{Sending, Erasing, Sends, Erases, Has, Idles}
+use Rattle.handler_post.specs.Sends.{Sending, Erasing, Sends, Erases, Has, TellsIdle}
 use Rattle.handler_post.specs.Unhandled.{Bars, Unbarring, Unbars, Quitting, Quits}
 use Rattle.looper_run.specs.Holding.{Sender, State, Holding}
 use Rattle.looper_run.specs.Acts.{IsNoLookOf}
 use Rattle.looper_run.specs.Tests.{IsLent}
 use Rattle.looper_run.proofs.Working.{lent_then}
 use Rattle.looper_run.proofs.Turning.{found, all_first, no_looks}
-use Rattle.plain_loop.specs.Lines.{holding, Keeps}
+use Rattle.plain_loop.specs.Lines.{holding, KeepsLine}
 use Rattle.plain_loop.specs.declared.values.Values.{Values}
 use Rattle.plain_loop.specs.Values.{TakesOut, TakesNone, QuittingWith, QuitsWith}
 
@@ -161,7 +161,7 @@ quitting safe now p q a b quit.NoMemory same ((x, y, t, quits), kept) =
     left_as_found p q x y a b t quits.1 (record { home = same; back = (let e : b.back ≡ a.back = ap (λ (z : Tally). z.back) kept in omega (arith, e)) })
 
 -- a step of a way keeps it
-keeps : {E P : Type 0} (v w : Way E P) → IsReady w → IsSameWay v w → Steps v.poster.now w.poster.now v.pass.now w.pass.now → Keeps v w
+keeps : {E P : Type 0} (v w : Way E P) → IsReady w → IsSameWay v w → Steps v.poster.now w.poster.now v.pass.now w.pass.now → KeepsLine v w
 keeps v w ready same step = record {
   ready = ready;
   same = same;
@@ -179,76 +179,76 @@ line_ready v w m ready same poster pass queue pool = record {
 same_home : {E P : Type 0} (v w : Way E P) → IsReady v → IsReady w → IsSameWay v w → w.pass.now.home ≡ v.pass.now.home
 same_home v w ready ready' same = ready'.pass ∙ (same.pool ∙ sym ready.pass)
 
-pub sends_keep : {E P : Type 0} (m : PostData) (v w : Way E P) (r : Sent) → IsReady v → IsReady w → IsSameWay v w → Sends m v w r → Keeps v w
+pub sends_keep : {E P : Type 0} (m : PostData) (v w : Way E P) (r : Sent) → IsReady v → IsReady w → IsSameWay v w → Sends m v w r → KeepsLine v w
 sends_keep m v w r ready ready' same did =
     keeps v w ready' same (sending v.pool.now m v.poster.now w.poster.now v.pass.now w.pass.now r (same_home v w ready ready' same) did)
 
-pub sends_with_keep : {E P : Type 0} (content : P → List ℕ) (m : PostData) (value : P) (v w : Way E P) (r : SentWith P) → IsReady v → IsReady w → IsSameWay v w → SendsWith content m value v w r → Keeps v w
+pub sends_with_keep : {E P : Type 0} (content : P → List ℕ) (m : PostData) (value : P) (v w : Way E P) (r : SentWith P) → IsReady v → IsReady w → IsSameWay v w → SendsWith content m value v w r → KeepsLine v w
 sends_with_keep content m value v w r ready ready' same did =
     keeps v w ready' same (sending_with content v.pool.now m value v.poster.now w.poster.now v.pass.now w.pass.now r (same_home v w ready ready' same) did)
 
-takes_keep : {E P : Type 0} (f : Filter) (values : Values P) (v w : Way E P) → IsReady v → IsReady w → IsSameWay v w → TakesOut f v w values → Keeps v w
+takes_keep : {E P : Type 0} (f : Filter) (values : Values P) (v w : Way E P) → IsReady v → IsReady w → IsSameWay v w → TakesOut f v w values → KeepsLine v w
 takes_keep f values v w ready ready' same ((x, y, t, takes), kept) =
     keeps v w ready' same (entered v.poster.now w.poster.now x y (Remove f) _ v.pass.now w.pass.now t (entries_are x y _ takes.2) refl (stayed v.pass.now w.pass.now (same_home v w ready ready' same) kept))
 
-takes_none_keep : {E P : Type 0} (v w : Way E P) → IsReady v → IsReady w → IsSameWay v w → TakesNone v w → Keeps v w
+takes_none_keep : {E P : Type 0} (v w : Way E P) → IsReady v → IsReady w → IsSameWay v w → TakesNone v w → KeepsLine v w
 takes_none_keep v w ready ready' same (none, kept) =
     keeps v w ready' same (made_none v.poster.now w.poster.now v.pass.now w.pass.now none (stayed v.pass.now w.pass.now (same_home v w ready ready' same) kept))
 
 pub removes_keep : {E P : Type 0} (f : Filter) (v w : Way E P) (r : Result (Values P) NoMemory) → IsReady v → IsReady w → IsSameWay v w
-    → IfOk r (TakesOut f v w) → OnErr r (TakesNone v w) → Keeps v w
+    → IfOk r (TakesOut f v w) → OnErr r (TakesNone v w) → KeepsLine v w
 removes_keep f v w (Ok values) ready ready' same did none = takes_keep f values v w ready ready' same did
 removes_keep f v w (Err e) ready ready' same did none = takes_none_keep v w ready ready' same none
 
-pub quits_with_keep : {E P : Type 0} (safe : Bool) (now : ℕ) (v w : Way E P) (r : Quit) (values : Values P) → IsReady v → IsReady w → IsSameWay v w → QuitsWith safe now v w r values → Keeps v w
+pub quits_with_keep : {E P : Type 0} (safe : Bool) (now : ℕ) (v w : Way E P) (r : Quit) (values : Values P) → IsReady v → IsReady w → IsSameWay v w → QuitsWith safe now v w r values → KeepsLine v w
 quits_with_keep safe now v w r values ready ready' same (did, kept) =
     keeps v w ready' same (quitting_with safe now v.poster.now w.poster.now v.pass.now w.pass.now r values (stayed v.pass.now w.pass.now (same_home v w ready ready' same) kept) did)
 
 -- the poster did nothing, and messages went back
-pub brings_keep : {E P : Type 0} (gone : List Node) (v w : Way E P) → IsReady v → IsReady w → IsSameWay v w → BringsBack gone v.pass.now w.pass.now → w.poster.now ≡ v.poster.now → Keeps v w
+pub brings_keep : {E P : Type 0} (gone : List Node) (v w : Way E P) → IsReady v → IsReady w → IsSameWay v w → BringsBack gone v.pass.now w.pass.now → w.poster.now ≡ v.poster.now → KeepsLine v w
 brings_keep gone v w ready ready' same brings kept =
     keeps v w ready' same (made_none v.poster.now w.poster.now v.pass.now w.pass.now (inl kept)
     (record { home = same_home v w ready ready' same; back = (let more = brings.0 in omega (arith, more)) }))
 
-pub erases_keep : {E P : Type 0} (f : Filter) (v w : Way E P) (r : Erased) → IsReady v → IsReady w → IsSameWay v w → Erases f v w r → Keeps v w
+pub erases_keep : {E P : Type 0} (f : Filter) (v w : Way E P) (r : Erased) → IsReady v → IsReady w → IsSameWay v w → Erases f v w r → KeepsLine v w
 erases_keep f v w r ready ready' same did =
     keeps v w ready' same (erasing f v.poster.now w.poster.now v.pass.now w.pass.now r (same_home v w ready ready' same) did)
 
 -- a turn that leaves the state as it was, and nothing given back
 still_keeps : {E P : Type 0} (v w : Way E P) (x : Queue TableId Claimed) → IsReady v → IsReady w → IsSameWay v w → IsTurn v.poster.now w.poster.now x x
-    → w.pass.now ≡ v.pass.now → Keeps v w
+    → w.pass.now ≡ v.pass.now → KeepsLine v w
 still_keeps v w x ready ready' same t kept =
     keeps v w ready' same (looked v.poster.now w.poster.now x v.pass.now w.pass.now t
     (record { home = same_home v w ready ready' same; back = (let e : w.pass.now.back ≡ v.pass.now.back = ap (λ (z : Tally). z.back) kept in omega (arith, e)) }))
 
-pub has_keeps : {E P : Type 0} (f : Filter) (v w : Way E P) (r : Bool) → IsReady v → IsReady w → IsSameWay v w → Has f v w r → Keeps v w
+pub has_keeps : {E P : Type 0} (f : Filter) (v w : Way E P) (r : Bool) → IsReady v → IsReady w → IsSameWay v w → Has f v w r → KeepsLine v w
 has_keeps f v w r ready ready' same ((x, t, is), kept) = still_keeps v w x ready ready' same t kept
 
-pub idle_keeps : {E P : Type 0} (now : ℕ) (v w : Way E P) (r : Bool) → IsReady v → IsReady w → IsSameWay v w → Idles now v w r → Keeps v w
+pub idle_keeps : {E P : Type 0} (now : ℕ) (v w : Way E P) (r : Bool) → IsReady v → IsReady w → IsSameWay v w → TellsIdle now v w r → KeepsLine v w
 idle_keeps now v w r ready ready' same ((x, t, is), kept) = still_keeps v w x ready ready' same t kept
 
-pub bars_keep : {E P : Type 0} (now token : ℕ) (v w : Way E P) → IsReady v → IsReady w → IsSameWay v w → v.pass.now.back ≤ w.pass.now.back → Bars now token v w → Keeps v w
+pub bars_keep : {E P : Type 0} (now token : ℕ) (v w : Way E P) → IsReady v → IsReady w → IsSameWay v w → v.pass.now.back ≤ w.pass.now.back → Bars now token v w → KeepsLine v w
 bars_keep now token v w ready ready' same back (node, (x, y, t, bars)) =
     keeps v w ready' same (entered v.poster.now w.poster.now x y (Barrier (moment_at x now)) (Token token) v.pass.now w.pass.now t (entries_are x y _ bars.1) refl
     (record { home = same_home v w ready ready' same; back = back }))
 
-pub unbars_keep : {E P : Type 0} (token : ℕ) (was : Bool) (v w : Way E P) → IsReady v → IsReady w → IsSameWay v w → v.pass.now.back ≤ w.pass.now.back → Unbars token was v w → Keeps v w
+pub unbars_keep : {E P : Type 0} (token : ℕ) (was : Bool) (v w : Way E P) → IsReady v → IsReady w → IsSameWay v w → v.pass.now.back ≤ w.pass.now.back → Unbars token was v w → KeepsLine v w
 unbars_keep token was v w ready ready' same back did =
     keeps v w ready' same (unbarring token was v.poster.now w.poster.now v.pass.now w.pass.now (record { home = same_home v w ready ready' same; back = back }) did)
 
-pub none_keeps : {E P : Type 0} (v w : Way E P) → IsReady v → IsReady w → IsSameWay v w → v.pass.now.back ≤ w.pass.now.back → MadeNone v.poster.now w.poster.now → Keeps v w
+pub none_keeps : {E P : Type 0} (v w : Way E P) → IsReady v → IsReady w → IsSameWay v w → v.pass.now.back ≤ w.pass.now.back → MadeNone v.poster.now w.poster.now → KeepsLine v w
 none_keeps v w ready ready' same back did =
     keeps v w ready' same (made_none v.poster.now w.poster.now v.pass.now w.pass.now did (record { home = same_home v w ready ready' same; back = back }))
 
-pub quits_keep : {E P : Type 0} (safe : Bool) (now : ℕ) (v w : Way E P) (r : Quit) → IsReady v → IsReady w → IsSameWay v w → Quits safe now v w r → Keeps v w
+pub quits_keep : {E P : Type 0} (safe : Bool) (now : ℕ) (v w : Way E P) (r : Quit) → IsReady v → IsReady w → IsSameWay v w → Quits safe now v w r → KeepsLine v w
 quits_keep safe now v w r ready ready' same did =
     keeps v w ready' same (quitting safe now v.poster.now w.poster.now v.pass.now w.pass.now r (same_home v w ready ready' same) did)
 
 module _ {E P : Type 0} (v w : Way E P) (ready : IsReady v) (ready' : IsReady w) (same : IsSameWay v w) (back : v.pass.now.back ≤ w.pass.now.back) where
-  pub bar_keeps : (now : ℕ) (r : Result ℕ NoMemory) → IfOk r (λ token. Bars now token v w) → OnErr r (MadeNone v.poster.now w.poster.now) → Keeps v w
+  pub bar_keeps : (now : ℕ) (r : Result ℕ NoMemory) → IfOk r (λ token. Bars now token v w) → OnErr r (MadeNone v.poster.now w.poster.now) → KeepsLine v w
   bar_keeps now (Ok token) did none = bars_keep now token v w ready ready' same back did
   bar_keeps now (Err e) did none = none_keeps v w ready ready' same back none
 
-  pub unbar_keeps : (token : ℕ) (r : Result Bool NoMemory) → IfOk r (λ was. Unbars token was v w) → OnErr r (MadeNone v.poster.now w.poster.now) → Keeps v w
+  pub unbar_keeps : (token : ℕ) (r : Result Bool NoMemory) → IfOk r (λ was. Unbars token was v w) → OnErr r (MadeNone v.poster.now w.poster.now) → KeepsLine v w
   unbar_keeps token (Ok was) did none = unbars_keep token was v w ready ready' same back did
   unbar_keeps token (Err e) did none = none_keeps v w ready ready' same back none

@@ -11,10 +11,10 @@ use Rattle.atomic_table.specs.Seated.{TableId}
 use Rattle.loop_model.specs.Answers.{Setting}
 use Rattle.shared_queue.specs.Known.{Shared}
 use Rattle.looper_run.specs.Holding.{Looping, Workplace}
-use Rattle.plain_loop.specs.Handling.{IsPlaceOf, did_of}
-use Rattle.plain_loop.specs.Looping.{LoopsOn, LoopsTimes}
+use Rattle.plain_loop.specs.Handling.{IsWorkplaceOf, did_of}
+use Rattle.plain_loop.specs.Looping.{EndsOrLetsGo, LoopsTimes}
 
--- what holds unless memory was wanting holds where it was not
+-- what holds unless memory ran out holds where it was not
 pub kept : (answer : Option Loop) (P : Type 0) → (answer ≡ Some loop.NoMemory → ⊥) → UnlessLostThen answer P → P
 kept None P found h = h
 kept (Some loop.Ended) P found h = h
@@ -32,16 +32,16 @@ did_unless d r P is h = subst (λ (x : Did). Unless x P) (sym is) (did_well r P 
 
 -- a loop more, which did not end the looper
 pub times_more : (keeps : Bool) (shows : ℕ → Bool) (s : Setting) (until : Option ℕ) (n : ℕ) (a b d : Looping) (over : Bool) → over ≡ false → LoopsTimes keeps shows s until n a b
-    → LoopsOn keeps shows s until over b d → (m : ℕ) × LoopsTimes keeps shows s until m a d
-times_more keeps shows s until n a b d over going times once = (suc n, (b, times, subst (λ (o : Bool). LoopsOn keeps shows s until o b d) going once))
+    → EndsOrLetsGo keeps shows s until over b d → (m : ℕ) × LoopsTimes keeps shows s until m a d
+times_more keeps shows s until n a b d over going times once = (suc n, (b, times, subst (λ (o : Bool). EndsOrLetsGo keeps shows s until o b d) going once))
 
 -- the same place
-pub place_still : (queue : Shared TableId) (pool : TableId) (w v : Workplace) → v ≡ w → IsPlaceOf queue pool w → IsPlaceOf queue pool v
-place_still queue pool w v same is = subst (λ (x : Workplace). IsPlaceOf queue pool x) (sym same) is
+pub place_still : (queue : Shared TableId) (pool : TableId) (w v : Workplace) → v ≡ w → IsWorkplaceOf queue pool w → IsWorkplaceOf queue pool v
+place_still queue pool w v same is = subst (λ (x : Workplace). IsWorkplaceOf queue pool x) (sym same) is
 
 -- a loop that ended the looper, where it waits as long as it is to
 pub loops_ended : (shows : ℕ → Bool) (s : Setting) (until : Option ℕ) (answer : Option Loop) (before after : Looping) (over : Bool) → over ≡ is_over_then answer → over ≡ true
-    → LoopsOrGoes shows 0 until s before.held after.held answer → LoopsOn false shows s until true before after
+    → LoopsOrGoes shows 0 until s before.held after.held answer → EndsOrLetsGo false shows s until true before after
 loops_ended shows s until (Some loop.Ended) before after over is ended loops = (until, refl, loops)
 loops_ended shows s until None before after over is ended loops = let wrong : false ≡ true = sym is ∙ ended in cc
 loops_ended shows s until (Some (loop.Cap now)) before after over is ended loops = let wrong : false ≡ true = sym is ∙ ended in cc

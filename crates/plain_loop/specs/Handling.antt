@@ -12,7 +12,7 @@ use Rattle.looper_run.specs.Holding.{Sender, Workplace}
 use Rattle.looper_run.specs.Tests.{IsTake}
 
 -- the looper is this queue's, its pass is one of the pool, and the queue's messages are the pool's
-pub record IsPlaceOf (queue : Shared TableId) (pool : TableId) (w : Workplace) : Type 0 where
+pub record IsWorkplaceOf (queue : Shared TableId) (pool : TableId) (w : Workplace) : Type 0 where
   pub table : w.table ≡ queue.table
   pub constants : w.constants ≡ Some queue.constants
   pub pass : w.pool ≡ pool

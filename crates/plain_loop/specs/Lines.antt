@@ -9,8 +9,8 @@ use Rattle.looper_run.specs.Tests.{IsLent}
 use Rattle.plain_loop.specs.declared.lines.Line.{Line}
 
 -- the same for this moment
-abbrev pub due_at : Post → ℕ → Post
-due_at p when = record p { when = when }
+abbrev pub post_for : Post → ℕ → Post
+post_for p when = record p { when = when }
 
 -- this holds of a moment that the clock shows
 abbrev pub AtNow : (ℕ → Bool) → (ℕ → Type 0) → Type 0
@@ -29,7 +29,7 @@ abbrev pub IsLentSince : {E P : Type 0} → Holding → Way E P → Type 0
 IsLentSince start w = IsLent start (holding w start.journal) × (w.poster.now.view.rung ≡ start.poster.view.rung)
 
 -- what each call on a line keeps: it is a line to the same queue, and where a looper lent its way, the call did no more than a dispatcher may
-pub record Keeps {E P : Type 0} (before after : Way E P) : Type 0 where
+pub record KeepsLine {E P : Type 0} (before after : Way E P) : Type 0 where
   pub ready : IsReady after
   pub same : IsSameWay before after
   pub lent : (start : Holding) → IsLentSince start before → IsLentSince start after

@@ -12,7 +12,7 @@ use Rattle.looper_run.specs.Loops.{LoopsOrGoes, is_over_then}
 use Rattle.looper_run.specs.LettingGo.{LetsGo, untold}
 use Rattle.atomic_table.specs.Seated.{TableId}
 use Rattle.shared_queue.specs.Known.{Shared}
-use Rattle.plain_loop.specs.Senders.{IsLooper}
+use Rattle.plain_loop.specs.Senders.{IsQueueLooper}
 
 -- where its queue's entries are kept a looper waits until a second from now at the most, and else as long as it is to
 abbrev pub WaitsTo : (ℕ → Bool) → Bool → Option ℕ → Option ℕ → Type 0
@@ -20,7 +20,7 @@ WaitsTo shows false until cap = cap ≡ until
 WaitsTo shows true None cap = (now : ℕ) × IsTrue (shows now) × (cap ≡ Some (moment_after now 1000))
 WaitsTo shows true (Some until) cap = (now : ℕ) × IsTrue (shows now) × (cap ≡ Some (min until (moment_after now 1000)))
 
--- the acts were let go, and where its queue's entries are kept a part of them was, unless memory was wanting
+-- the acts were let go, and where its queue's entries are kept a part of them was, unless memory ran out
 abbrev pub LetsGoOf : Bool → Result (Unit {0}) NoMemory → Looping → Looping → Type 0
 LetsGoOf true gone before after = LetsGo gone before after
 LetsGoOf false gone before after = (gone ≡ Ok tt) × (after ≡ untold before)
@@ -53,9 +53,9 @@ module _ (keeps : Bool) (shows : ℕ → Bool) (s : Setting) (until : Option ℕ
       × (looped : Looping) × LoopsOnce answer before looped × LetsGoOf keeps (Ok tt) looped after
 
   -- a loop that ended the looper, or one behind which it let its records go
-  abbrev pub LoopsOn : Bool → Looping → Looping → Type 0
-  LoopsOn true before after = LoopsOnce (Some loop.Ended) before after
-  LoopsOn false before after = LoopsAndLetsGo before after
+  abbrev pub EndsOrLetsGo : Bool → Looping → Looping → Type 0
+  EndsOrLetsGo true before after = LoopsOnce (Some loop.Ended) before after
+  EndsOrLetsGo false before after = LoopsAndLetsGo before after
 
   -- so many of these, one behind another
   abbrev pub LoopsTimes : ℕ → Looping → Looping → Type 0
@@ -67,9 +67,9 @@ module _ (keeps : Bool) (shows : ℕ → Bool) (s : Setting) (until : Option ℕ
   LoopsToItsEnd before after = (n : ℕ) × (last : Looping) × LoopsTimes n before last × LoopsOnce (Some loop.Ended) last after
 
 -- a looper of this queue and this pool that looped on in its place: it has ended where it is over, and else it may loop again
-pub record HasLooped (keeps : Bool) (shows : ℕ → Bool) (until : Option ℕ) (queue : Shared TableId) (pool : TableId)
+pub record HasLoopedOn (keeps : Bool) (shows : ℕ → Bool) (until : Option ℕ) (queue : Shared TableId) (pool : TableId)
     (before after : Looping) (over : Bool) : Type 0 where
-  pub loops : LoopsOn keeps shows queue.constants.setting until over before after
+  pub loops : EndsOrLetsGo keeps shows queue.constants.setting until over before after
   pub ended : after.ended ≡ over
-  pub looper : over ≡ false → IsLooper queue pool after
+  pub looper : over ≡ false → IsQueueLooper queue pool after
   pub place : workplace after.held ≡ workplace before.held

@@ -26,14 +26,14 @@ abbrev pub IsOneFewer : {E P : Type 0} → Senders E P → Senders E P → Type 
 IsOneFewer few many = length many.posters.items ≡ length few.posters.items + 1
 
 -- the looper is of this queue and this pool, it has not ended, and its poster is the last sender's, which alone may let go of the queue's history
-pub record IsLooper (queue : Shared TableId) (pool : TableId) (l : Looping) : Type 0 where
+pub record IsQueueLooper (queue : Shared TableId) (pool : TableId) (l : Looping) : Type 0 where
   pub at : IsAt queue pool l.held
   pub going : l.ended ≡ false
   pub last : l.held.poster.sender + 1 ≡ queue.constants.setting.senders
 
 -- a queue that nobody has used, with its looper and so many senders, which goes by a clock; it is as the settings say
 pub record IsOpened {E P : Type 0} (settings : Settings) (count : ℕ) (o : Opened E P) : Type 0 where
-  pub looper : IsLooper o.queue o.pool o.looper
+  pub looper : IsQueueLooper o.queue o.pool o.looper
   pub number : (o.queue.constants.looper ≡ settings.looper) × (o.looper.held.journal.looper ≡ settings.looper)
   pub main : o.queue.constants.setting.main ≡ settings.main
   pub unused : IsNewPoster o.looper.held.poster

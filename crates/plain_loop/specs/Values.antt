@@ -40,8 +40,8 @@ HandedOut content gone rest None = (contents gone ≡ []) × (rest ≡ [])
 HandedOut content gone rest (Some value) = contents gone ≡ content value ∷ []
 
 -- the first of these messages went back to the pool, and the one value that they carry was handed out; the poster did nothing
-abbrev pub HandsOut : {E P : Type 0} → (P → List ℕ) → Values P → Values P → Way E P → Way E P → Option P → Type 0
-HandsOut content left left' before after result = (gone : List Node) × (left.nodes ≡ gone ++ left'.nodes) × HandedOut content gone left'.nodes result
+abbrev pub HandsValueOut : {E P : Type 0} → (P → List ℕ) → Values P → Values P → Way E P → Way E P → Option P → Type 0
+HandsValueOut content left left' before after result = (gone : List Node) × (left.nodes ≡ gone ++ left'.nodes) × HandedOut content gone left'.nodes result
     × BringsBack gone before.pass.now after.pass.now × (after.poster.now ≡ before.poster.now)
 
 -- one turn that removed these messages, which the filter names; no slot was given back yet

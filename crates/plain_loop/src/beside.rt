@@ -3,8 +3,8 @@ ghost use Rattle.std.specs.Prelude.{◌≡◌, ◌≢◌, ◌<◌, true, false, 
 ghost use Rattle.looper_run.specs.declared.by_clock.Loop.TheVariants as loop;
 ghost use Rattle.looper_run.specs.Loops.{is_over_then};
 ghost use Rattle.looper_run.specs.Holding.{workplace};
-ghost use Rattle.plain_loop.specs.Looping.{ServesAlways, KeepsDispatcher, HasLooped, LoopsToItsEnd};
-ghost use Rattle.plain_loop.specs.Senders.{IsSender, AreSenders, IsOneFewer, IsLooper};
+ghost use Rattle.plain_loop.specs.Looping.{ServesAlways, KeepsDispatcher, HasLoopedOn, LoopsToItsEnd};
+ghost use Rattle.plain_loop.specs.Senders.{IsSender, AreSenders, IsOneFewer, IsQueueLooper};
 
 use crate::handlers::{Handle, Handling};
 use crate::mailbox::{Mailbox, Opened, Sender, Senders, Settings, open, open_with};
@@ -49,10 +49,10 @@ pub fn loop_and_let_go<
     dispatcher: &mut D,
     until: Option<u64>,
 ) -> Result<bool, NoMemory>
-    requires looper { IsLooper mailbox.now.queue.now mailbox.now.pool.now looper.old }
+    requires looper { IsQueueLooper mailbox.now.queue.now mailbox.now.pool.now looper.old }
     requires free { mailbox.now.queue.now.constants.setting.lockstep ≡ false }
     requires ready { ServesAlways D.Serves D.Awaits D.Meets dispatcher.old (workplace looper.old.held) }
-    ensures looped { IfOk result (HasLooped E.keeps (C.shows mailbox.now.clock.now) until mailbox.now.queue.now mailbox.now.pool.now looper.old looper.new) }
+    ensures looped { IfOk result (HasLoopedOn E.keeps (C.shows mailbox.now.clock.now) until mailbox.now.queue.now mailbox.now.pool.now looper.old looper.new) }
     ensures keeps { KeepsDispatcher D.Serves D.origin dispatcher.old dispatcher.new }
     ensures awaits { OnOk result (D.Awaits dispatcher.new None) }
 {
@@ -85,7 +85,7 @@ pub fn run_looper<R: Wait + time::Clock, C: Clock, E: LetGo, H: Handle<R, C, E> 
     looper: &mut Looper<E>,
     handlers: H,
 ) -> Result<H, NoMemory>
-    requires looper { IsLooper mailbox.now.queue.now mailbox.now.pool.now looper.old }
+    requires looper { IsQueueLooper mailbox.now.queue.now mailbox.now.pool.now looper.old }
     requires free { mailbox.now.queue.now.constants.setting.lockstep ≡ false }
     requires holds { H.Holds handlers }
     ensures ended { OnOk result (looper.new.ended ≡ true) }
@@ -166,7 +166,7 @@ fn side_by_side<
     handlers: H,
     work: W,
 ) -> Result<(T, H), NoMemory>
-    requires looper { IsLooper mailbox.now.queue.now mailbox.now.pool.now looper }
+    requires looper { IsQueueLooper mailbox.now.queue.now mailbox.now.pool.now looper }
     requires free { mailbox.now.queue.now.constants.setting.lockstep ≡ false }
     requires senders { AreSenders mailbox.now.queue.now mailbox.now.pool.now senders × (0 < length senders.posters.items) }
     requires work { (s : _) → AreSenders mailbox.now.queue.now mailbox.now.pool.now s × IsOneFewer s senders → W.pre work mailbox s }

@@ -2,8 +2,8 @@
 ghost use Rattle.std.specs.Prelude.{◌≡◌, ℕ, IsTrue, true, None, OnOk};
 ghost use Rattle.message_slot.specs.Letter.{number_in, post_of};
 ghost use Rattle.handler_post.specs.Ways.{IsReady};
-ghost use Rattle.plain_loop.specs.Lines.{Keeps, way_of};
-ghost use Rattle.plain_loop.specs.Handling.{IsPlaceOf, HasJustTaken, HasJustTakenCallback, did_of};
+ghost use Rattle.plain_loop.specs.Lines.{KeepsLine, way_of};
+ghost use Rattle.plain_loop.specs.Handling.{IsWorkplaceOf, HasJustTaken, HasJustTakenCallback, did_of};
 
 use crate::lines::Line;
 use crate::mailbox::Mailbox;
@@ -25,7 +25,7 @@ pub type Handled = Result<(), NoMemory>;
 /// send by the line that they are lent, which is the looper's own. Its queue's entries go where `E` says: `Unkept` is for a queue that
 /// keeps none. After NoMemory the looper gives up.
 pub trait Handle<R: Wait, C: Clock, E: Recorder> {
-    /// A fact of the handlers' own, which each call keeps unless memory was wanting. By default there is none.
+    /// A fact of the handlers' own, which each call keeps unless memory ran out. By default there is none.
     ghost Holds: { Self → Type 0 } = { λ h. Unit {0} };
 
     /// Handles a message without a callback, which the looper just took, and which was due at `now` or before, in milliseconds. Which
@@ -34,7 +34,7 @@ pub trait Handle<R: Wait, C: Clock, E: Recorder> {
         requires line { IsReady (way_of line.old) }
         requires taken { HasJustTaken line.old.poster.now (number_in message.now.item) (post_of message.now.item) now }
         requires holds { Holds self.old }
-        ensures keeps { Keeps (way_of line.old) (way_of line.new) }
+        ensures keeps { KeepsLine (way_of line.old) (way_of line.new) }
         ensures holds { OnOk result (Holds self.new) }
     {
         Ok(())
@@ -45,7 +45,7 @@ pub trait Handle<R: Wait, C: Clock, E: Recorder> {
         requires line { IsReady (way_of line.old) }
         requires taken { (number : ℕ) × HasJustTakenCallback line.old.poster.now number id now }
         requires holds { Holds self.old }
-        ensures keeps { Keeps (way_of line.old) (way_of line.new) }
+        ensures keeps { KeepsLine (way_of line.old) (way_of line.new) }
         ensures holds { OnOk result (Holds self.new) }
     {
         Ok(())
@@ -94,7 +94,7 @@ impl<'a, R: Wait, C: Clock, E: Recorder, H: Handle<R, C, E>> Dispatcher
 
     type Value = ();
 
-    ghost Serves = { λ d w. IsPlaceOf d.mailbox.now.queue.now d.mailbox.now.pool.now w };
+    ghost Serves = { λ d w. IsWorkplaceOf d.mailbox.now.queue.now d.mailbox.now.pool.now w };
 
     ghost Origin = { Unit {0} };
 

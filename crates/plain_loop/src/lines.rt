@@ -2,9 +2,9 @@
 ghost use Rattle.std.specs.Prelude.{◌≡◌, IsTrue, true, false, OnErr, IfOk};
 ghost use Rattle.loop_model.specs.Posts.{moment_after};
 ghost use Rattle.handler_post.specs.Ways.{IsReady, MadeNone};
-ghost use Rattle.handler_post.specs.Sends.{Sends, Erases, Has, Idles};
+ghost use Rattle.handler_post.specs.Sends.{Sends, Erases, Has, TellsIdle};
 ghost use Rattle.handler_post.specs.Unhandled.{Bars, Unbars, Quits};
-ghost use Rattle.plain_loop.specs.Lines.{Keeps, due_at, way_of, AtNow};
+ghost use Rattle.plain_loop.specs.Lines.{KeepsLine, post_for, way_of, AtNow};
 
 use handler_post::{Erased, Quit, Sent, Way};
 use loop_io::Clock;
@@ -38,7 +38,7 @@ pub struct Line<'a, R: Wait, C: Clock, E: Recorder = Unkept, P: Payload = ()> {
 }
 
 pub(crate) fn due(post: Post, when: u64) -> Post
-    ensures { result ≡ due_at post when }
+    ensures { result ≡ post_for post when }
 {
     Post { when, ..post }
 }
@@ -54,8 +54,8 @@ impl<'a, R: Wait, C: Clock, E: Recorder, P: Payload> Line<'a, R, C, E, P> {
     /// Sends this now (`sendMessage`, `post`).
     pub fn send(&mut self, post: Post) -> Sent
         requires { IsReady (way_of self.old) }
-        ensures keeps { Keeps (way_of self.old) (way_of self.new) }
-        ensures sent { AtNow (C.shows self.old.clock.now) (λ now. Sends (due_at post now) (way_of self.old) (way_of self.new) result) }
+        ensures keeps { KeepsLine (way_of self.old) (way_of self.new) }
+        ensures sent { AtNow (C.shows self.old.clock.now) (λ now. Sends (post_for post now) (way_of self.old) (way_of self.new) result) }
     {
         let now = self.clock.uptime_millis();
         self.send_at(post, now)
@@ -64,8 +64,8 @@ impl<'a, R: Wait, C: Clock, E: Recorder, P: Payload> Line<'a, R, C, E, P> {
     /// Sends this for the moment `when` (`sendMessageAtTime`, `postAtTime`).
     pub fn send_at(&mut self, post: Post, when: u64) -> Sent
         requires { IsReady (way_of self.old) }
-        ensures keeps { Keeps (way_of self.old) (way_of self.new) }
-        ensures sent { Sends (due_at post when) (way_of self.old) (way_of self.new) result }
+        ensures keeps { KeepsLine (way_of self.old) (way_of self.new) }
+        ensures sent { Sends (post_for post when) (way_of self.old) (way_of self.new) result }
     {
         let due = due(post, when);
         let mut way = Way {
@@ -80,8 +80,8 @@ impl<'a, R: Wait, C: Clock, E: Recorder, P: Payload> Line<'a, R, C, E, P> {
     /// Sends this for `delay` from now on, or for the last moment where that lies behind it (`sendMessageDelayed`, `postDelayed`).
     pub fn send_delayed(&mut self, post: Post, delay: u64) -> Sent
         requires { IsReady (way_of self.old) }
-        ensures keeps { Keeps (way_of self.old) (way_of self.new) }
-        ensures sent { AtNow (C.shows self.old.clock.now) (λ now. Sends (due_at post (moment_after now delay)) (way_of self.old) (way_of self.new) result) }
+        ensures keeps { KeepsLine (way_of self.old) (way_of self.new) }
+        ensures sent { AtNow (C.shows self.old.clock.now) (λ now. Sends (post_for post (moment_after now delay)) (way_of self.old) (way_of self.new) result) }
     {
         let now = self.clock.uptime_millis();
         self.send_at(post, now.saturating_add(delay))
@@ -90,8 +90,8 @@ impl<'a, R: Wait, C: Clock, E: Recorder, P: Payload> Line<'a, R, C, E, P> {
     /// Sends this to the head of the queue (`sendMessageAtFrontOfQueue`, `postAtFrontOfQueue`).
     pub fn send_at_front(&mut self, post: Post) -> Sent
         requires { IsReady (way_of self.old) }
-        ensures keeps { Keeps (way_of self.old) (way_of self.new) }
-        ensures sent { Sends (due_at post 0) (way_of self.old) (way_of self.new) result }
+        ensures keeps { KeepsLine (way_of self.old) (way_of self.new) }
+        ensures sent { Sends (post_for post 0) (way_of self.old) (way_of self.new) result }
     {
         self.send_at(post, 0)
     }
@@ -99,7 +99,7 @@ impl<'a, R: Wait, C: Clock, E: Recorder, P: Payload> Line<'a, R, C, E, P> {
     /// Removes what is named (`removeMessages`, `removeCallbacks`, `removeCallbacksAndMessages`).
     pub fn remove(&mut self, filter: Filter) -> Erased
         requires { IsReady (way_of self.old) }
-        ensures keeps { Keeps (way_of self.old) (way_of self.new) }
+        ensures keeps { KeepsLine (way_of self.old) (way_of self.new) }
         ensures erased { Erases filter (way_of self.old) (way_of self.new) result }
     {
         let mut way = Way {
@@ -114,7 +114,7 @@ impl<'a, R: Wait, C: Clock, E: Recorder, P: Payload> Line<'a, R, C, E, P> {
     /// Whether some of what is named stands in the queue (`hasMessages`, `hasCallbacks`).
     pub fn has(&mut self, filter: Filter) -> bool
         requires { IsReady (way_of self.old) }
-        ensures keeps { Keeps (way_of self.old) (way_of self.new) }
+        ensures keeps { KeepsLine (way_of self.old) (way_of self.new) }
         ensures has { Has filter (way_of self.old) (way_of self.new) result }
     {
         let mut way = Way {
@@ -129,8 +129,8 @@ impl<'a, R: Wait, C: Clock, E: Recorder, P: Payload> Line<'a, R, C, E, P> {
     /// Whether nothing stands at the head of the queue, or the head is later than now (`MessageQueue.isIdle`).
     pub fn is_idle(&mut self) -> bool
         requires { IsReady (way_of self.old) }
-        ensures keeps { Keeps (way_of self.old) (way_of self.new) }
-        ensures idle { AtNow (C.shows self.old.clock.now) (λ now. Idles now (way_of self.old) (way_of self.new) result) }
+        ensures keeps { KeepsLine (way_of self.old) (way_of self.new) }
+        ensures idle { AtNow (C.shows self.old.clock.now) (λ now. TellsIdle now (way_of self.old) (way_of self.new) result) }
     {
         let now = self.clock.uptime_millis();
         let mut way = Way {
@@ -145,7 +145,7 @@ impl<'a, R: Wait, C: Clock, E: Recorder, P: Payload> Line<'a, R, C, E, P> {
     /// Posts a barrier now, and answers its token (`MessageQueue.postSyncBarrier`).
     pub fn post_barrier(&mut self) -> Result<u64, NoMemory>
         requires { IsReady (way_of self.old) }
-        ensures keeps { Keeps (way_of self.old) (way_of self.new) }
+        ensures keeps { KeepsLine (way_of self.old) (way_of self.new) }
         ensures barred { IfOk result (λ token. AtNow (C.shows self.old.clock.now) (λ now. Bars now token (way_of self.old) (way_of self.new))) }
         ensures none { OnErr result (MadeNone self.old.poster.now self.new.poster.now) }
     {
@@ -162,7 +162,7 @@ impl<'a, R: Wait, C: Clock, E: Recorder, P: Payload> Line<'a, R, C, E, P> {
     /// Removes the barrier of the token, and answers whether there was one (`MessageQueue.removeSyncBarrier`).
     pub fn remove_barrier(&mut self, token: u64) -> Result<bool, NoMemory>
         requires { IsReady (way_of self.old) }
-        ensures keeps { Keeps (way_of self.old) (way_of self.new) }
+        ensures keeps { KeepsLine (way_of self.old) (way_of self.new) }
         ensures unbarred { IfOk result (λ was. Unbars token was (way_of self.old) (way_of self.new)) }
         ensures none { OnErr result (MadeNone self.old.poster.now self.new.poster.now) }
     {
@@ -178,7 +178,7 @@ impl<'a, R: Wait, C: Clock, E: Recorder, P: Payload> Line<'a, R, C, E, P> {
     /// Quits: what is due now is still handled, and what is due later is dropped (`Looper.quitSafely`).
     pub fn quit_safely(&mut self) -> Quit
         requires { IsReady (way_of self.old) }
-        ensures keeps { Keeps (way_of self.old) (way_of self.new) }
+        ensures keeps { KeepsLine (way_of self.old) (way_of self.new) }
         ensures quits { AtNow (C.shows self.old.clock.now) (λ now. Quits true now (way_of self.old) (way_of self.new) result) }
     {
         self.end(true)
@@ -187,7 +187,7 @@ impl<'a, R: Wait, C: Clock, E: Recorder, P: Payload> Line<'a, R, C, E, P> {
     /// Quits: all is dropped (`Looper.quit`).
     pub fn quit(&mut self) -> Quit
         requires { IsReady (way_of self.old) }
-        ensures keeps { Keeps (way_of self.old) (way_of self.new) }
+        ensures keeps { KeepsLine (way_of self.old) (way_of self.new) }
         ensures quits { AtNow (C.shows self.old.clock.now) (λ now. Quits false now (way_of self.old) (way_of self.new) result) }
     {
         self.end(false)
@@ -196,7 +196,7 @@ impl<'a, R: Wait, C: Clock, E: Recorder, P: Payload> Line<'a, R, C, E, P> {
     // Quits, with what is due now still handled where this is safe.
     fn end(&mut self, safe: bool) -> Quit
         requires { IsReady (way_of self.old) }
-        ensures keeps { Keeps (way_of self.old) (way_of self.new) }
+        ensures keeps { KeepsLine (way_of self.old) (way_of self.new) }
         ensures quits { AtNow (C.shows self.old.clock.now) (λ now. Quits safe now (way_of self.old) (way_of self.new) result) }
     {
         let now = self.clock.uptime_millis();

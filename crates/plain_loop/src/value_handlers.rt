@@ -2,8 +2,8 @@
 ghost use Rattle.std.specs.Prelude.{◌≡◌, IsTrue, true, None, OnOk};
 ghost use Rattle.handler_post.specs.Ways.{IsReady};
 ghost use Rattle.message_pool.specs.Values.{content_in, content_of, without_value};
-ghost use Rattle.plain_loop.specs.Handling.{IsPlaceOf, HasJustTaken, HasJustTakenCallback};
-ghost use Rattle.plain_loop.specs.Lines.{Keeps, way_of};
+ghost use Rattle.plain_loop.specs.Handling.{IsWorkplaceOf, HasJustTaken, HasJustTakenCallback};
+ghost use Rattle.plain_loop.specs.Lines.{KeepsLine, way_of};
 ghost use Rattle.plain_loop.specs.Values.{IsValueOf};
 
 use crate::handlers::{Handled, Msg, did};
@@ -23,7 +23,7 @@ pub trait HandleValues<R: Wait, C: Clock> {
     /// What the messages of its looper's queue may carry.
     type Value: Payload;
 
-    /// A fact of the handlers' own, which each call keeps unless memory was wanting. By default there is none.
+    /// A fact of the handlers' own, which each call keeps unless memory ran out. By default there is none.
     ghost Holds: { Self → Type 0 } = { λ h. Unit {0} };
 
     /// Takes the value out of a message, and leaves all else of it: `take_value(message)` of message_pool, which the handlers' own code calls,
@@ -47,7 +47,7 @@ pub trait HandleValues<R: Wait, C: Clock> {
         requires taken { HasJustTaken line.old.poster.now number post.now now }
         requires value { IsValueOf Self.Value.content line.old.poster.now number value.old }
         requires holds { Holds self.old }
-        ensures keeps { Keeps (way_of line.old) (way_of line.new) }
+        ensures keeps { KeepsLine (way_of line.old) (way_of line.new) }
         ensures holds { OnOk result (Holds self.new) }
     {
         Ok(())
@@ -67,7 +67,7 @@ pub trait HandleValues<R: Wait, C: Clock> {
         requires taken { HasJustTakenCallback line.old.poster.now number id now }
         requires value { IsValueOf Self.Value.content line.old.poster.now number value.old }
         requires holds { Holds self.old }
-        ensures keeps { Keeps (way_of line.old) (way_of line.new) }
+        ensures keeps { KeepsLine (way_of line.old) (way_of line.new) }
         ensures holds { OnOk result (Holds self.new) }
     {
         Ok(())
@@ -104,7 +104,7 @@ impl<'a, R: Wait, C: Clock, H: HandleValues<R, C>> Dispatcher for HandlingValues
 
     type Value = H::Value;
 
-    ghost Serves = { λ d w. IsPlaceOf d.mailbox.now.queue.now d.mailbox.now.pool.now w };
+    ghost Serves = { λ d w. IsWorkplaceOf d.mailbox.now.queue.now d.mailbox.now.pool.now w };
 
     ghost Origin = { Unit {0} };
 

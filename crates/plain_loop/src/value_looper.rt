@@ -2,8 +2,8 @@
 ghost use Rattle.std.specs.Prelude.{◌≡◌, ◌+◌, ◌<◌, ℕ, false, None, true, length, OnOk, IfOk};
 ghost use Rattle.looper_run.specs.Holding.{workplace};
 ghost use Rattle.looper_run.specs.Tests.{IsSameLooper};
-ghost use Rattle.plain_loop.specs.Looping.{LetsGoOf, ServesAlways, KeepsDispatcher, HasLooped, LoopsToItsEnd};
-ghost use Rattle.plain_loop.specs.Senders.{IsSender, AreSenders, IsLooper};
+ghost use Rattle.plain_loop.specs.Looping.{LetsGoOf, ServesAlways, KeepsDispatcher, HasLoopedOn, LoopsToItsEnd};
+ghost use Rattle.plain_loop.specs.Senders.{IsSender, AreSenders, IsQueueLooper};
 
 use crate::beside::{MOST_AT_ONCE, is_over};
 use crate::mailbox::{Mailbox, Opened, Sender, Senders, Settings, open_queue};
@@ -39,10 +39,10 @@ fn loop_and_drop<
     dispatcher: &mut D,
     until: Option<u64>,
 ) -> Result<bool, NoMemory>
-    requires looper { IsLooper mailbox.now.queue.now mailbox.now.pool.now looper.old }
+    requires looper { IsQueueLooper mailbox.now.queue.now mailbox.now.pool.now looper.old }
     requires free { mailbox.now.queue.now.constants.setting.lockstep ≡ false }
     requires ready { ServesAlways D.Serves D.Awaits D.Meets dispatcher.old (workplace looper.old.held) }
-    ensures looped { IfOk result (HasLooped false (C.shows mailbox.now.clock.now) until mailbox.now.queue.now mailbox.now.pool.now looper.old looper.new) }
+    ensures looped { IfOk result (HasLoopedOn false (C.shows mailbox.now.clock.now) until mailbox.now.queue.now mailbox.now.pool.now looper.old looper.new) }
     ensures keeps { KeepsDispatcher D.Serves D.origin dispatcher.old dispatcher.new }
     ensures awaits { OnOk result (D.Awaits dispatcher.new None) }
 {
@@ -74,7 +74,7 @@ pub fn run_value_looper<R: Wait + time::Clock, C: Clock, H: HandleValues<R, C> +
     looper: &mut Looper<Unkept, H::Value>,
     handlers: H,
 ) -> Result<H, NoMemory>
-    requires looper { IsLooper mailbox.now.queue.now mailbox.now.pool.now looper.old }
+    requires looper { IsQueueLooper mailbox.now.queue.now mailbox.now.pool.now looper.old }
     requires free { mailbox.now.queue.now.constants.setting.lockstep ≡ false }
     requires holds { H.Holds handlers }
     ensures ended { OnOk result (looper.new.ended ≡ true) }
@@ -143,7 +143,7 @@ fn side_by_side<
     handlers: H,
     work: W,
 ) -> Result<(W::Answer, H), NoMemory>
-    requires looper { IsLooper mailbox.now.queue.now mailbox.now.pool.now looper }
+    requires looper { IsQueueLooper mailbox.now.queue.now mailbox.now.pool.now looper }
     requires free { mailbox.now.queue.now.constants.setting.lockstep ≡ false }
     requires senders { AreSenders mailbox.now.queue.now mailbox.now.pool.now senders }
     requires count { length senders.posters.items ≡ W.count work + 1 }
@@ -157,7 +157,7 @@ fn side_by_side<
             requires { IsSender mailbox.now.queue.now mailbox.now.pool.now last × AreSenders mailbox.now.queue.now mailbox.now.pool.now senders × (length senders.posters.items ≡ W.count work) }
         { work_and_quit(mailbox, senders, last, work) },
         ||
-            requires { IsLooper mailbox.now.queue.now mailbox.now.pool.now looper × (mailbox.now.queue.now.constants.setting.lockstep ≡ false) × H.Holds handlers }
+            requires { IsQueueLooper mailbox.now.queue.now mailbox.now.pool.now looper × (mailbox.now.queue.now.constants.setting.lockstep ≡ false) × H.Holds handlers }
         { run_value_looper(mailbox, &mut looper, handlers) },
     );
     Ok((answer, handlers?))

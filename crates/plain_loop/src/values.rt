@@ -3,8 +3,8 @@ ghost use Rattle.std.specs.Prelude.{◌≡◌, true, false, length, OnErr, IfOk,
 ghost use Rattle.loop_model.specs.Posts.{moment_after};
 ghost use Rattle.handler_post.specs.Ways.{IsReady, IsSameWay};
 ghost use Rattle.handler_post.specs.Values.{SendsWith};
-ghost use Rattle.plain_loop.specs.Lines.{Keeps, due_at, way_of, AtNow};
-ghost use Rattle.plain_loop.specs.Values.{AreOf, AreAsAccepted, HandsOut, TakesOut, TakesNone, QuitsWith, IsValueOf, IfAccepted};
+ghost use Rattle.plain_loop.specs.Lines.{KeepsLine, post_for, way_of, AtNow};
+ghost use Rattle.plain_loop.specs.Values.{AreOf, AreAsAccepted, HandsValueOut, TakesOut, TakesNone, QuitsWith, IsValueOf, IfAccepted};
 
 use crate::lines::{Line, due};
 use handler_post::{Quit, SentWith, Way, recycle_with};
@@ -90,7 +90,7 @@ fn hand_out<E: Recorder, P: Payload>(way: &mut Way<E, P>, values: &mut Values<P>
     ensures ready { IsReady way.new }
     ensures same { IsSameWay way.old way.new }
     ensures of { AreOf way.new.pool.now values.new }
-    ensures value { HandsOut P.content values.old values.new way.old way.new result }
+    ensures value { HandsValueOut P.content values.old values.new way.old way.new result }
 {
     while let Some(node) = values.nodes.pop_front() {
         if let Some(value) = recycle_with(way.pool, way.pass, node) {
@@ -105,8 +105,8 @@ impl<'a, R: Wait, C: Clock, E: Recorder, P: Payload> Line<'a, R, C, E, P> {
     /// the message, the value is handed back; and so it is where no slot of the pool is free, as a value wants one (this project's profile).
     pub fn send_value(&mut self, post: Post, value: P) -> SentWith<P>
         requires { IsReady (way_of self.old) }
-        ensures keeps { Keeps (way_of self.old) (way_of self.new) }
-        ensures sent { AtNow (C.shows self.old.clock.now) (λ now. SendsWith P.content (due_at post now) value (way_of self.old) (way_of self.new) result) }
+        ensures keeps { KeepsLine (way_of self.old) (way_of self.new) }
+        ensures sent { AtNow (C.shows self.old.clock.now) (λ now. SendsWith P.content (post_for post now) value (way_of self.old) (way_of self.new) result) }
         ensures accepted { IfAccepted result (λ number. IsValueOf P.content self.new.poster.now number (Some value)) }
     {
         let now = self.clock.uptime_millis();
@@ -116,8 +116,8 @@ impl<'a, R: Wait, C: Clock, E: Recorder, P: Payload> Line<'a, R, C, E, P> {
     /// Sends this with a value for the moment `when` (`sendMessageAtTime`), as `send_value` does.
     pub fn send_value_at(&mut self, post: Post, value: P, when: u64) -> SentWith<P>
         requires { IsReady (way_of self.old) }
-        ensures keeps { Keeps (way_of self.old) (way_of self.new) }
-        ensures sent { SendsWith P.content (due_at post when) value (way_of self.old) (way_of self.new) result }
+        ensures keeps { KeepsLine (way_of self.old) (way_of self.new) }
+        ensures sent { SendsWith P.content (post_for post when) value (way_of self.old) (way_of self.new) result }
         ensures accepted { IfAccepted result (λ number. IsValueOf P.content self.new.poster.now number (Some value)) }
     {
         let due = due(post, when);
@@ -134,8 +134,8 @@ impl<'a, R: Wait, C: Clock, E: Recorder, P: Payload> Line<'a, R, C, E, P> {
     /// `send_value` does.
     pub fn send_value_delayed(&mut self, post: Post, value: P, delay: u64) -> SentWith<P>
         requires { IsReady (way_of self.old) }
-        ensures keeps { Keeps (way_of self.old) (way_of self.new) }
-        ensures sent { AtNow (C.shows self.old.clock.now) (λ now. SendsWith P.content (due_at post (moment_after now delay)) value (way_of self.old) (way_of self.new) result) }
+        ensures keeps { KeepsLine (way_of self.old) (way_of self.new) }
+        ensures sent { AtNow (C.shows self.old.clock.now) (λ now. SendsWith P.content (post_for post (moment_after now delay)) value (way_of self.old) (way_of self.new) result) }
         ensures accepted { IfAccepted result (λ number. IsValueOf P.content self.new.poster.now number (Some value)) }
     {
         let now = self.clock.uptime_millis();
@@ -145,8 +145,8 @@ impl<'a, R: Wait, C: Clock, E: Recorder, P: Payload> Line<'a, R, C, E, P> {
     /// Sends this with a value to the head of the queue (`sendMessageAtFrontOfQueue`), as `send_value` does.
     pub fn send_value_at_front(&mut self, post: Post, value: P) -> SentWith<P>
         requires { IsReady (way_of self.old) }
-        ensures keeps { Keeps (way_of self.old) (way_of self.new) }
-        ensures sent { SendsWith P.content (due_at post 0) value (way_of self.old) (way_of self.new) result }
+        ensures keeps { KeepsLine (way_of self.old) (way_of self.new) }
+        ensures sent { SendsWith P.content (post_for post 0) value (way_of self.old) (way_of self.new) result }
         ensures accepted { IfAccepted result (λ number. IsValueOf P.content self.new.poster.now number (Some value)) }
     {
         self.send_value_at(post, value, 0)
@@ -156,7 +156,7 @@ impl<'a, R: Wait, C: Clock, E: Recorder, P: Payload> Line<'a, R, C, E, P> {
     /// (this project's profile).
     pub fn remove_values(&mut self, filter: Filter) -> Result<Values<P>, NoMemory>
         requires { IsReady (way_of self.old) }
-        ensures keeps { Keeps (way_of self.old) (way_of self.new) }
+        ensures keeps { KeepsLine (way_of self.old) (way_of self.new) }
         ensures of { IfOk result (AreOf self.old.pool.now) }
         ensures accepted { IfOk result (AreAsAccepted self.new.poster.now) }
         ensures taken { IfOk result (TakesOut filter (way_of self.old) (way_of self.new)) }
@@ -175,7 +175,7 @@ impl<'a, R: Wait, C: Clock, E: Recorder, P: Payload> Line<'a, R, C, E, P> {
     /// project's profile).
     pub fn quit_safely_for_values(&mut self) -> (Quit, Values<P>)
         requires { IsReady (way_of self.old) }
-        ensures keeps { Keeps (way_of self.old) (way_of self.new) }
+        ensures keeps { KeepsLine (way_of self.old) (way_of self.new) }
         ensures of { AreOf self.old.pool.now result.1 }
         ensures accepted { AreAsAccepted self.new.poster.now result.1 }
         ensures quits { AtNow (C.shows self.old.clock.now) (λ now. QuitsWith true now (way_of self.old) (way_of self.new) result.0 result.1) }
@@ -187,7 +187,7 @@ impl<'a, R: Wait, C: Clock, E: Recorder, P: Payload> Line<'a, R, C, E, P> {
     /// profile).
     pub fn quit_for_values(&mut self) -> (Quit, Values<P>)
         requires { IsReady (way_of self.old) }
-        ensures keeps { Keeps (way_of self.old) (way_of self.new) }
+        ensures keeps { KeepsLine (way_of self.old) (way_of self.new) }
         ensures of { AreOf self.old.pool.now result.1 }
         ensures accepted { AreAsAccepted self.new.poster.now result.1 }
         ensures quits { AtNow (C.shows self.old.clock.now) (λ now. QuitsWith false now (way_of self.old) (way_of self.new) result.0 result.1) }
@@ -198,7 +198,7 @@ impl<'a, R: Wait, C: Clock, E: Recorder, P: Payload> Line<'a, R, C, E, P> {
     // Quits, and hands out what is dropped.
     fn end_for_values(&mut self, safe: bool) -> (Quit, Values<P>)
         requires { IsReady (way_of self.old) }
-        ensures keeps { Keeps (way_of self.old) (way_of self.new) }
+        ensures keeps { KeepsLine (way_of self.old) (way_of self.new) }
         ensures of { AreOf self.old.pool.now result.1 }
         ensures accepted { AreAsAccepted self.new.poster.now result.1 }
         ensures quits { AtNow (C.shows self.old.clock.now) (λ now. QuitsWith safe now (way_of self.old) (way_of self.new) result.0 result.1) }
@@ -218,9 +218,9 @@ impl<'a, R: Wait, C: Clock, E: Recorder, P: Payload> Line<'a, R, C, E, P> {
     pub fn next_value(&mut self, values: &mut Values<P>) -> Option<P>
         requires ready { IsReady (way_of self.old) }
         requires of { AreOf self.old.pool.now values.old }
-        ensures keeps { Keeps (way_of self.old) (way_of self.new) }
+        ensures keeps { KeepsLine (way_of self.old) (way_of self.new) }
         ensures of { AreOf self.new.pool.now values.new }
-        ensures value { HandsOut P.content values.old values.new (way_of self.old) (way_of self.new) result }
+        ensures value { HandsValueOut P.content values.old values.new (way_of self.old) (way_of self.new) result }
     {
         let mut way = Way {
             queue: self.queue,

@@ -34,8 +34,8 @@ use Rattle.run_model.specs.Planned.{history_of}
 use Rattle.run_picture.specs.declared.report.Past.TheVariants as past
 use Rattle.run_picture.specs.declared.line.Line.{Line}
 use Rattle.run_picture.specs.declared.line.Line.TheVariants.{Title, Looper, Past, Fates, Act, Run, End}
-use Rattle.run_picture.specs.Text.{FitsSubject, frame_lines, looper_lines, loopers_lines, lines}
-use Rattle.report_law.specs.Seen.{subject_of, past_by, fates_of, acts_by, run_of, runs_first, frames_in, posted_in, seen_looper, seen_loopers, seen}
+use Rattle.run_picture.specs.Text.{FitsSubject, picture_frame_lines, picture_looper_lines, picture_loopers_lines, picture_lines}
+use Rattle.report_law.specs.Seen.{subject_of, past_by, counted_fates, acts_by, run_of, runs_first, seen_frames, posted_in, seen_looper, seen_loopers, seen}
 use Rattle.report_law.specs.Widths.{PostFits, CallFits, ReplyFits, EntryFits, SegmentFits, QueueFits, ActFits, JournalFits, CallbackFits, FrameEntryFits, FramesFit, ReportFits}
 use Rattle.report_law.specs.Laws.{HasLimits, is_countable}
 
@@ -154,7 +154,7 @@ history_fits : (ps : List Segment) → AllByRecursion SegmentFits ps → AllByRe
 history_fits [] fits = tt
 history_fits (p ∷ ps) fits = AllByRecursion-append EntryFits p.entries (entries_of ps) fits.0 (history_fits ps fits.1)
 
-counts_fit : (fs : List Fate) → IsLong (length fs) → HasLimits (Fates (fates_of fs))
+counts_fit : (fs : List Fate) → IsLong (length fs) → HasLimits (Fates (counted_fates fs))
 counts_fit fs long =
     let d = count_by-le-length is_dispatched fs in
     let r = count_by-le-length is_removed fs in
@@ -197,10 +197,10 @@ runs_fit cs (entry.Posted c ∷ es) all = runs_fit cs es all
 runs_fit cs (entry.Removed phase id token count ∷ es) all = runs_fit cs es all
 runs_fit cs (entry.Take phase now time ∷ es) all = runs_fit cs es all
 
-frames_fit : (cs : List Callback) (es : List FrameEntry) → AllByRecursion CallbackFits cs → AllByRecursion FrameEntryFits es → Limited (flat_map frame_lines (frames_in cs es))
+frames_fit : (cs : List Callback) (es : List FrameEntry) → AllByRecursion CallbackFits cs → AllByRecursion FrameEntryFits es → Limited (flat_map picture_frame_lines (seen_frames cs es))
 frames_fit cs [] all fits = tt
 frames_fit cs (entry.Begin vsync start time ∷ es) all fits =
-    (fits.0, AllByRecursion-append HasLimits (map Run (runs_first cs es)) (flat_map frame_lines (frames_in cs es)) (runs_fit cs es all) (frames_fit cs es all fits.1))
+    (fits.0, AllByRecursion-append HasLimits (map Run (runs_first cs es)) (flat_map picture_frame_lines (seen_frames cs es)) (runs_fit cs es all) (frames_fit cs es all fits.1))
 frames_fit cs (entry.Ran n ∷ es) all fits = frames_fit cs es all fits.1
 frames_fit cs (entry.Posted c ∷ es) all fits = frames_fit cs es all fits.1
 frames_fit cs (entry.Removed phase id token count ∷ es) all fits = frames_fit cs es all fits.1
@@ -208,28 +208,28 @@ frames_fit cs (entry.Take phase now time ∷ es) all fits = frames_fit cs es all
 
 -- ---- the whole report
 
-looper_fits : (n : ℕ) (q : QueueRecord) (j : Journal) (f : FrameRecord) → IsLong n → QueueFits q → JournalFits j → FramesFit f → is_countable q ≡ true → Limited (looper_lines n (seen_looper q j f))
+looper_fits : (n : ℕ) (q : QueueRecord) (j : Journal) (f : FrameRecord) → IsLong n → QueueFits q → JournalFits j → FramesFit f → is_countable q ≡ true → Limited (picture_looper_lines n (seen_looper q j f))
 looper_fits n q j f number queue journal frames countable =
     let es = history_of q in
     let l = seen_looper q j f in
     let entries = history_fits q.segments queue in
-    AllByRecursion-append HasLimits (Looper n ∷ map Past l.past ++ Fates l.fates ∷ map Act l.acts) (flat_map frame_lines l.frames)
+    AllByRecursion-append HasLimits (Looper n ∷ map Past l.past ++ Fates l.fates ∷ map Act l.acts) (flat_map picture_frame_lines l.frames)
     (number, AllByRecursion-append HasLimits (map Past l.past) (Fates l.fates ∷ map Act l.acts) (entries_fit (accepted_posts es) es (posts_fit es entries) entries) (counts_fit (fates es) (ltb-true (length (fates es)) (2 ^ 64) countable), acts_fit j.acts journal))
     (frames_fit (posted_in f.entries) f.entries (posted_fit f.entries frames) frames)
 
 loopers_fit : (n : ℕ) (qs : List QueueRecord) (js : List Journal) (fs : List FrameRecord) → n + length qs ≤ 2 ^ 64 → AllByRecursion QueueFits qs → AllByRecursion JournalFits js → AllByRecursion FramesFit fs
-    → list_all is_countable qs ≡ true → Limited (loopers_lines n (seen_loopers qs js fs))
+    → list_all is_countable qs ≡ true → Limited (picture_loopers_lines n (seen_loopers qs js fs))
 loopers_fit n [] js fs few queues journals frames countable = tt
 loopers_fit n (q ∷ qs) [] fs few queues journals frames countable = tt
 loopers_fit n (q ∷ qs) (j ∷ js) [] few queues journals frames countable = tt
 loopers_fit n (q ∷ qs) (j ∷ js) (f ∷ fs) few queues journals frames countable =
     let counts = and_parts (is_countable q) (list_all is_countable qs) countable in
-    AllByRecursion-append HasLimits (looper_lines n (seen_looper q j f)) (loopers_lines (n + 1) (seen_loopers qs js fs))
+    AllByRecursion-append HasLimits (picture_looper_lines n (seen_looper q j f)) (picture_loopers_lines (n + 1) (seen_loopers qs js fs))
     (looper_fits n q j f (omega (arith, few)) queues.0 journals.0 frames.0 counts.0)
     (loopers_fit (n + 1) qs js fs (omega (arith, few)) queues.1 journals.1 frames.1 counts.1)
 
-pub report_fits : (r : RunReport) → ReportFits r → IsEdition r.script.edition → list_all is_countable r.queues ≡ true → Limited (lines (seen r))
+pub report_fits : (r : RunReport) → ReportFits r → IsEdition r.script.edition → list_all is_countable r.queues ≡ true → Limited (picture_lines (seen r))
 report_fits r fits edition countable =
     let few = fits.loopers in
-    AllByRecursion-append HasLimits (Title r.script.edition ∷ loopers_lines 0 (seen_loopers r.queues r.journals r.frames)) (End ∷ [])
+    AllByRecursion-append HasLimits (Title r.script.edition ∷ picture_loopers_lines 0 (seen_loopers r.queues r.journals r.frames)) (End ∷ [])
     (edition, loopers_fit 0 r.queues r.journals r.frames (omega (arith, few)) fits.queues fits.journals fits.frames countable) (tt, tt)

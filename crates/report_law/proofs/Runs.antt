@@ -6,7 +6,7 @@ use Rattle.frame_phases.specs.declared.entry.Callback.{Callback}
 use Rattle.frame_phases.specs.declared.entry.FrameEntry.{FrameEntry}
 use Rattle.frame_phases.specs.declared.entry.FrameEntry.TheVariants.{Posted, Removed, Begin, Take, Ran}
 use Rattle.frame_phases.specs.declared.entry.FrameRecord.{FrameRecord}
-use Rattle.frame_phases.specs.Frames.{lawful, next_phase, owed}
+use Rattle.frame_phases.specs.Frames.{lawful, next_phase, owed_callbacks}
 use Rattle.frame_phases.specs.Between.{ran_before_begin}
 use Rattle.frame_phases.proofs.EndsOfFrames.{nothing_runs_between_frames}
 use Rattle.dash_script.specs.declared.script.Script.{Script}
@@ -37,7 +37,7 @@ none_first cs (Take p n t ∷ es) e = none_first cs es e
 none_first cs (Ran n ∷ es) e = cc
 
 framed : (interval phases : ℕ) (es : List FrameEntry) → lawful interval phases es ≡ true → runs_first (posted_in es) es ≡ []
-unfolding next_phase owed
+unfolding next_phase owed_callbacks
 framed interval phases es e = none_first (posted_in es) es (nothing_runs_between_frames interval phases [] es e refl refl)
 
 all_framed : (s : Script) (fs : List FrameRecord) → AllByRecursion (IsFrameRun s) fs → AllByRecursion IsFramed fs

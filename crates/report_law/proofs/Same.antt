@@ -30,8 +30,8 @@ use Rattle.run_picture.specs.declared.report.Act.{Act as SeenAct}
 use Rattle.run_picture.specs.declared.report.Run.{Run as RunData}
 use Rattle.run_picture.specs.declared.line.Line.{Line}
 use Rattle.run_picture.specs.declared.line.Line.TheVariants.{Title, Looper, Past, Fates, Act, Run, End}
-use Rattle.run_picture.specs.Text.{subject_words, past_words, act_words, line_words, line_text, frame_lines, looper_lines, loopers_lines, lines, text}
-use Rattle.report_law.specs.Seen.{subject_of, past_by, past_of, fates_of, acts_by, run_of, runs_first, frames_in, posted_in, seen_looper, seen_loopers, seen}
+use Rattle.run_picture.specs.Text.{subject_words, past_words, act_words, picture_line_words, picture_line_text, picture_frame_lines, picture_looper_lines, picture_loopers_lines, picture_lines, picture_text}
+use Rattle.report_law.specs.Seen.{subject_of, past_by, past_of, counted_fates, acts_by, run_of, runs_first, seen_frames, posted_in, seen_looper, seen_loopers, seen}
 use Rattle.report_law.specs.Laws.{AreCounted, IsFramed}
 
 -- ---- a queue's history
@@ -42,7 +42,7 @@ subject_same what (Some c) = refl
 
 dispatch_same : (now n : ℕ) (o : Option PostData)
     → map past_words (option_map_or (λ p. seen_past.Dispatch now n p.handler (subject_of p.what p.callback) ∷ []) o [])
-    ≡ option_map_or (λ p. (decimal now ∷ codes "dispatch" ∷ decimal n ∷ printed.subject p) ∷ []) o []
+    ≡ option_map_or (λ p. (decimal now ∷ codes "dispatch" ∷ decimal n ∷ printed.post_subject p) ∷ []) o []
 dispatch_same now n None = refl
 dispatch_same now n (Some p) = ap (λ ws. (decimal now ∷ codes "dispatch" ∷ decimal n ∷ decimal p.handler ∷ ws) ∷ []) (subject_same p.what p.callback)
 
@@ -112,7 +112,7 @@ history_same posts (e ∷ es) =
     ∙ (ap (λ ws. ws ++ map past_words (flat_map (λ e. past_by posts e.call e.reply) es)) (past_same posts e.call e.reply)
     ∙ ap (λ ws. printed.call_lines posts e.call e.reply ++ ws) (history_same posts es))
 
-past_through : (ps : List PastData) → map line_words (map Past ps) ≡ map past_words ps
+past_through : (ps : List PastData) → map picture_line_words (map Past ps) ≡ map past_words ps
 past_through [] = refl
 past_through (p ∷ ps) = ap (λ ws. past_words p ∷ ws) (past_through ps)
 
@@ -131,33 +131,33 @@ acts_same (a ∷ more) =
     map-append act_words (acts_by a) (flat_map acts_by more)
     ∙ (ap (λ ws. ws ++ map act_words (flat_map acts_by more)) (act_same a) ∙ ap (λ ws. printed.act_lines a ++ ws) (acts_same more))
 
-acts_through : (acts : List SeenAct) → map line_words (map Act acts) ≡ map act_words acts
+acts_through : (acts : List SeenAct) → map picture_line_words (map Act acts) ≡ map act_words acts
 acts_through [] = refl
 acts_through (a ∷ more) = ap (λ ws. act_words a ∷ ws) (acts_through more)
 
 -- ---- a choreographer's frames
 
 abbrev run_line : RunData → List (List ℕ)
-run_line r = line_words (Run r)
+run_line r = picture_line_words (Run r)
 
 run_same : (o : Option Callback) → map run_line (option_map_or (λ c. run_of c ∷ []) o []) ≡ option_map_or (λ c. (codes "run" ∷ decimal c.phase ∷ decimal c.id ∷ []) ∷ []) o []
 run_same None = refl
 run_same (Some c) = refl
 
-runs_through : (rs : List RunData) → map line_words (map Run rs) ≡ map run_line rs
+runs_through : (rs : List RunData) → map picture_line_words (map Run rs) ≡ map run_line rs
 runs_through [] = refl
 runs_through (r ∷ rs) = ap (λ ws. run_line r ∷ ws) (runs_through rs)
 
 frames_same : (cs : List Callback) (es : List FrameEntry)
-    → map run_line (runs_first cs es) ++ map line_words (flat_map frame_lines (frames_in cs es)) ≡ flat_map (printed.frame_entry_lines cs) es
+    → map run_line (runs_first cs es) ++ map picture_line_words (flat_map picture_frame_lines (seen_frames cs es)) ≡ flat_map (printed.frame_entry_lines cs) es
 frames_same cs [] = refl
 frames_same cs (entry.Begin vsync start time ∷ es) =
     ap (λ ws. (codes "frame" ∷ decimal time ∷ []) ∷ ws)
-    (map-append line_words (map Run (runs_first cs es)) (flat_map frame_lines (frames_in cs es))
-    ∙ (ap (λ ws. ws ++ map line_words (flat_map frame_lines (frames_in cs es))) (runs_through (runs_first cs es)) ∙ frames_same cs es))
+    (map-append picture_line_words (map Run (runs_first cs es)) (flat_map picture_frame_lines (seen_frames cs es))
+    ∙ (ap (λ ws. ws ++ map picture_line_words (flat_map picture_frame_lines (seen_frames cs es))) (runs_through (runs_first cs es)) ∙ frames_same cs es))
 frames_same cs (entry.Ran n ∷ es) =
     let first = option_map_or (λ c. run_of c ∷ []) (slice_get cs n) [] in
-    let rest = map line_words (flat_map frame_lines (frames_in cs es)) in
+    let rest = map picture_line_words (flat_map picture_frame_lines (seen_frames cs es)) in
     ap (λ ws. ws ++ rest) (map-append run_line first (runs_first cs es))
     ∙ (append_assoc (map run_line first) (map run_line (runs_first cs es)) rest
     ∙ (ap (λ ws. ws ++ (map run_line (runs_first cs es) ++ rest)) (run_same (slice_get cs n))
@@ -167,16 +167,16 @@ frames_same cs (entry.Removed phase id token count ∷ es) = frames_same cs es
 frames_same cs (entry.Take phase now time ∷ es) = frames_same cs es
 
 framed_same : (cs : List Callback) (es : List FrameEntry) → runs_first cs es ≡ []
-    → map line_words (flat_map frame_lines (frames_in cs es)) ≡ flat_map (printed.frame_entry_lines cs) es
+    → map picture_line_words (flat_map picture_frame_lines (seen_frames cs es)) ≡ flat_map (printed.frame_entry_lines cs) es
 framed_same cs es framed =
-    ap (λ rs. map run_line rs ++ map line_words (flat_map frame_lines (frames_in cs es))) (sym framed) ∙ frames_same cs es
+    ap (λ rs. map run_line rs ++ map picture_line_words (flat_map picture_frame_lines (seen_frames cs es))) (sym framed) ∙ frames_same cs es
 
 -- ---- a looper
 
 shaped : (h f : Line) (xs ys zs : List Line)
-    → map line_words (h ∷ xs ++ f ∷ ys ++ zs) ≡ line_words h ∷ map line_words xs ++ line_words f ∷ map line_words ys ++ map line_words zs
+    → map picture_line_words (h ∷ xs ++ f ∷ ys ++ zs) ≡ picture_line_words h ∷ map picture_line_words xs ++ picture_line_words f ∷ map picture_line_words ys ++ map picture_line_words zs
 shaped h f xs ys zs =
-    map-append line_words (h ∷ xs ++ f ∷ ys) zs ∙ ap (λ l. l ++ map line_words zs) (map-append line_words (h ∷ xs) (f ∷ ys))
+    map-append picture_line_words (h ∷ xs ++ f ∷ ys) zs ∙ ap (λ l. l ++ map picture_line_words zs) (map-append picture_line_words (h ∷ xs) (f ∷ ys))
 
 -- parts of a looper's lines that are equal
 joined : (h f : List (List ℕ)) (xs us ys vs zs ws : List (List (List ℕ))) → xs ≡ us → ys ≡ vs → zs ≡ ws
@@ -185,48 +185,48 @@ joined h f xs us ys vs zs ws a b c =
     ap (λ l. h ∷ l ++ f ∷ ys ++ zs) a ∙ (ap (λ l. h ∷ us ++ f ∷ l ++ zs) b ∙ ap (λ l. h ∷ us ++ f ∷ vs ++ l) c)
 
 looper_same : (q : QueueRecord) (j : Journal) (f : FrameRecord) → IsFramed f
-    → map line_words (looper_lines q.looper (seen_looper q j f)) ≡ printed.looper_lines q j f
+    → map picture_line_words (picture_looper_lines q.looper (seen_looper q j f)) ≡ printed.looper_lines q j f
 looper_same q j f framed =
     let es = history_of q in
     let ps = past_of es in
     let acts = flat_map acts_by j.acts in
-    let fs = flat_map frame_lines (frames_in (posted_in f.entries) f.entries) in
-    shaped (Looper q.looper) (Fates (fates_of (fates es))) (map Past ps) (map Act acts) fs
+    let fs = flat_map picture_frame_lines (seen_frames (posted_in f.entries) f.entries) in
+    shaped (Looper q.looper) (Fates (counted_fates (fates es))) (map Past ps) (map Act acts) fs
     ∙ joined (codes "looper" ∷ decimal q.looper ∷ []) (printed.fates_line (fates es))
-    (map line_words (map Past ps)) (printed.history_lines es)
-    (map line_words (map Act acts)) (flat_map printed.act_lines j.acts)
-    (map line_words fs) (printed.frame_lines f.entries)
+    (map picture_line_words (map Past ps)) (printed.history_lines es)
+    (map picture_line_words (map Act acts)) (flat_map printed.act_lines j.acts)
+    (map picture_line_words fs) (printed.frame_lines f.entries)
     (past_through ps ∙ history_same (accepted_posts es) es)
     (acts_through acts ∙ acts_same j.acts)
     (framed_same (posted_in f.entries) f.entries framed)
 
 numbered_same : (n : ℕ) (q : QueueRecord) (j : Journal) (f : FrameRecord) → q.looper ≡ n → IsFramed f
-    → map line_words (looper_lines n (seen_looper q j f)) ≡ printed.looper_lines q j f
-numbered_same n q j f at framed = ap (λ k. map line_words (looper_lines k (seen_looper q j f))) (sym at) ∙ looper_same q j f framed
+    → map picture_line_words (picture_looper_lines n (seen_looper q j f)) ≡ printed.looper_lines q j f
+numbered_same n q j f at framed = ap (λ k. map picture_line_words (picture_looper_lines k (seen_looper q j f))) (sym at) ∙ looper_same q j f framed
 
 -- ---- a report
 
 loopers_same : (n : ℕ) (qs : List QueueRecord) (js : List Journal) (fs : List FrameRecord) → AreCounted n qs → AllByRecursion IsFramed fs
-    → map line_words (loopers_lines n (seen_loopers qs js fs)) ≡ printed.loopers_lines qs js fs
+    → map picture_line_words (picture_loopers_lines n (seen_loopers qs js fs)) ≡ printed.loopers_lines qs js fs
 loopers_same n [] js fs counted framed = refl
 loopers_same n (q ∷ qs) [] fs counted framed = refl
 loopers_same n (q ∷ qs) (j ∷ js) [] counted framed = refl
 loopers_same n (q ∷ qs) (j ∷ js) (f ∷ fs) counted framed =
-    map-append line_words (looper_lines n (seen_looper q j f)) (loopers_lines (n + 1) (seen_loopers qs js fs))
-    ∙ (ap (λ ws. ws ++ map line_words (loopers_lines (n + 1) (seen_loopers qs js fs))) (numbered_same n q j f counted.0 framed.0)
+    map-append picture_line_words (picture_looper_lines n (seen_looper q j f)) (picture_loopers_lines (n + 1) (seen_loopers qs js fs))
+    ∙ (ap (λ ws. ws ++ map picture_line_words (picture_loopers_lines (n + 1) (seen_loopers qs js fs))) (numbered_same n q j f counted.0 framed.0)
     ∙ ap (λ ws. printed.looper_lines q j f ++ ws) (loopers_same (n + 1) qs js fs counted.1 framed.1))
 
-lines_same : (r : RunReport) → AreCounted 0 r.queues → AllByRecursion IsFramed r.frames → map line_words (lines (seen r)) ≡ printed.lines r
-unfolding printed.lines
+lines_same : (r : RunReport) → AreCounted 0 r.queues → AllByRecursion IsFramed r.frames → map picture_line_words (picture_lines (seen r)) ≡ printed.report_lines r
+unfolding printed.report_lines
 lines_same r counted framed =
-    map-append line_words (Title r.script.edition ∷ loopers_lines 0 (seen_loopers r.queues r.journals r.frames)) (End ∷ [])
+    map-append picture_line_words (Title r.script.edition ∷ picture_loopers_lines 0 (seen_loopers r.queues r.journals r.frames)) (End ∷ [])
     ∙ ap (λ ws. ((codes "report" ∷ decimal r.script.edition ∷ []) ∷ ws) ++ (codes "end" ∷ []) ∷ []) (loopers_same 0 r.queues r.journals r.frames counted framed)
 
-text_through : (ls : List Line) → flat_map line_text ls ≡ flat_map printed.line_text (map line_words ls)
-unfolding line_text
+text_through : (ls : List Line) → flat_map picture_line_text ls ≡ flat_map printed.line_text (map picture_line_words ls)
+unfolding picture_line_text
 text_through [] = refl
-text_through (l ∷ ls) = ap (λ b. printed.line_text (line_words l) ++ b) (text_through ls)
+text_through (l ∷ ls) = ap (λ b. printed.line_text (picture_line_words l) ++ b) (text_through ls)
 
-pub text_same : (r : RunReport) → AreCounted 0 r.queues → AllByRecursion IsFramed r.frames → printed.text r ≡ text (seen r)
-unfolding printed.text
-text_same r counted framed = sym (text_through (lines (seen r)) ∙ ap (flat_map printed.line_text) (lines_same r counted framed))
+pub text_same : (r : RunReport) → AreCounted 0 r.queues → AllByRecursion IsFramed r.frames → printed.report_text r ≡ picture_text (seen r)
+unfolding printed.report_text
+text_same r counted framed = sym (text_through (picture_lines (seen r)) ∙ ap (flat_map printed.line_text) (lines_same r counted framed))

@@ -13,7 +13,7 @@ use Rattle.run_model.specs.Run.{IsRun}
 use Rattle.dash_script.specs.declared.script.Script.{Script}
 use Rattle.run_picture.specs.declared.line.Line.{Line}
 use Rattle.run_picture.specs.declared.line.Line.TheVariants.{Fates}
-use Rattle.run_picture.specs.Text.{Fits, IsLong, IsText, lines}
+use Rattle.run_picture.specs.Text.{FitsReportLine, IsLong, IsReportText, picture_lines}
 use Rattle.report_law.specs.Seen.{posted_in, runs_first, seen}
 
 -- the queues are those of loopers that are numbered from n on
@@ -28,13 +28,13 @@ IsFramed f = runs_first (posted_in f.entries) f.entries ≡ []
 -- each number of a line is within the limits of its place, whatever the numbers add up to
 abbrev pub HasLimits : Line → Type 0
 HasLimits (Fates f) = IsLong f.accepted × IsLong f.dispatched × IsLong f.removed × IsLong f.dropped × IsLong f.stranded × IsLong f.queued
-HasLimits l = Fits l
+HasLimits l = FitsReportLine l
 
 -- the text of the report of a run is the text of what the run tells
 abbrev pub PrintedIsRead : Type 0
 PrintedIsRead =
-    (r : RunReport) → AreCounted 0 r.queues → AllByRecursion IsFramed r.frames → AllByRecursion HasLimits (lines (seen r))
-    → IsText (printed.text r) (seen r)
+    (r : RunReport) → AreCounted 0 r.queues → AllByRecursion IsFramed r.frames → AllByRecursion HasLimits (picture_lines (seen r))
+    → IsReportText (printed.report_text r) (seen r)
 
 -- a number of 64 bits can count the posts that the queue accepted
 abbrev pub is_countable : QueueRecord → Bool
@@ -42,4 +42,4 @@ is_countable q = nat_lt (length (fates (history_of q))) (2 ^ 64)
 
 -- the text of the report of a run of a script that has a text is the text of what the run tells
 abbrev pub ARunIsRead : RunReport → Type 0
-ARunIsRead r = (m : Mode) (s : Script) → IsRun m s r → HasText s → IsText (printed.text r) (seen r)
+ARunIsRead r = (m : Mode) (s : Script) → IsRun m s r → HasText s → IsReportText (printed.report_text r) (seen r)

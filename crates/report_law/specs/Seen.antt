@@ -52,8 +52,8 @@ past_by posts _ _ = []
 abbrev pub past_of : List Entry → List Past
 past_of es = flat_map (λ e. past_by (accepted_posts es) e.call e.reply) es
 
-abbrev pub fates_of : List Fate → Fates
-fates_of fs = record {
+abbrev pub counted_fates : List Fate → Fates
+counted_fates fs = record {
   accepted = length fs;
   dispatched = count_by is_dispatched fs;
   removed = count_by is_removed fs;
@@ -82,13 +82,13 @@ runs_first cs (entry.Removed phase id token count ∷ es) = runs_first cs es
 runs_first cs (entry.Take phase now time ∷ es) = runs_first cs es
 
 -- the frames, each with the callbacks that ran up to the next one
-abbrev pub frames_in : List Callback → List FrameEntry → List Frame
-frames_in cs [] = []
-frames_in cs (entry.Begin vsync start time ∷ es) = record { time = time; runs = runs_first cs es } ∷ frames_in cs es
-frames_in cs (entry.Ran n ∷ es) = frames_in cs es
-frames_in cs (entry.Posted c ∷ es) = frames_in cs es
-frames_in cs (entry.Removed phase id token count ∷ es) = frames_in cs es
-frames_in cs (entry.Take phase now time ∷ es) = frames_in cs es
+abbrev pub seen_frames : List Callback → List FrameEntry → List Frame
+seen_frames cs [] = []
+seen_frames cs (entry.Begin vsync start time ∷ es) = record { time = time; runs = runs_first cs es } ∷ seen_frames cs es
+seen_frames cs (entry.Ran n ∷ es) = seen_frames cs es
+seen_frames cs (entry.Posted c ∷ es) = seen_frames cs es
+seen_frames cs (entry.Removed phase id token count ∷ es) = seen_frames cs es
+seen_frames cs (entry.Take phase now time ∷ es) = seen_frames cs es
 
 abbrev pub posted_in : List FrameEntry → List Callback
 posted_in es = filter_map posted_callback es
@@ -97,9 +97,9 @@ posted_in es = filter_map posted_callback es
 abbrev pub seen_looper : QueueRecord → Journal → FrameRecord → Looper
 seen_looper q j f = record {
   past = past_of (history_of q);
-  fates = fates_of (fates (history_of q));
+  fates = counted_fates (fates (history_of q));
   acts = flat_map acts_by j.acts;
-  frames = frames_in (posted_in f.entries) f.entries;
+  frames = seen_frames (posted_in f.entries) f.entries;
 }
 
 abbrev pub seen_loopers : List QueueRecord → List Journal → List FrameRecord → List Looper

@@ -7,16 +7,16 @@ use Rattle.loop_model.specs.declared.entry.Entry.{Entry}
 use Rattle.loop_model.specs.Entries.{moment_of}
 use Rattle.run_flows.specs.declared.flow.Sent.{Sent}
 use Rattle.run_flows.specs.declared.flow.Flow.{Flow}
-use Rattle.run_flows.specs.Flows.{flow_to, sent_by, sent_from}
+use Rattle.run_flows.specs.Flows.{flow_to, added_post, sent_from}
 
 -- the posts of one entry more
 pub sent_more : (es : List Entry) (i : ℕ) (d : Entry) (time later : ℕ) (was now whole : List Sent) → i < length es
-    → now ≡ was ++ option_to_list (sent_by time (get_or es i d)) → later ≡ max time (moment_of (get_or es i d).call)
+    → now ≡ was ++ option_to_list (added_post time (get_or es i d)) → later ≡ max time (moment_of (get_or es i d).call)
     → was ++ sent_from time (drop i es) ≡ whole → now ++ sent_from later (drop (i + 1) es) ≡ whole
 sent_more es i d time later was now whole lt push clock before =
     ap (λ l. l ++ sent_from later (drop (i + 1) es)) push
-    ∙ ap (λ t. was ++ option_to_list (sent_by time (get_or es i d)) ++ sent_from t (drop (i + 1) es)) clock
-    ∙ append_assoc was (option_to_list (sent_by time (get_or es i d))) (sent_from (max time (moment_of (get_or es i d).call)) (drop (i + 1) es))
+    ∙ ap (λ t. was ++ option_to_list (added_post time (get_or es i d)) ++ sent_from t (drop (i + 1) es)) clock
+    ∙ append_assoc was (option_to_list (added_post time (get_or es i d))) (sent_from (max time (moment_of (get_or es i d).call)) (drop (i + 1) es))
     ∙ ap (λ l. was ++ sent_from time l) (sym (drop_more es i d lt)) ∙ before
 
 single : {A B : Type 0} (h : A → Option B) (x : A) → filter_map h (x ∷ []) ≡ option_to_list (h x)

@@ -10,7 +10,7 @@ use Rattle.run_picture.specs.Events.{naming}
 use Rattle.trace_check.specs.declared.trace.Trace.{Trace}
 use Rattle.run_flows.specs.declared.flow.Flow.{Flow}
 use Rattle.run_flows.specs.Flows.{flows}
-use Rattle.run_flows.specs.Events.{arrows_from, dispatch_event, end_of, events, placed, post_event, process}
+use Rattle.run_flows.specs.Events.{arrows_from, dispatch_event, arrow_end, events, placed_slice, post_event, process}
 
 -- one value more
 value_more : (out now : List Value) (v : Value) (d : Data) → now ≡ out ++ v ∷ [] → view v ≡ d → map view now ≡ map view out ++ d ∷ []
@@ -30,11 +30,11 @@ arrow_more fs i arrow d out between now v w whole lt first e second f before =
 
 -- no event has a float
 post_whole : (arrow : ℕ) (f : Flow) → has_float (post_event arrow f) ≡ false
-unfolding end_of placed
+unfolding arrow_end placed_slice
 post_whole arrow f = refl
 
 dispatch_whole : (arrow : ℕ) (f : Flow) → has_float (dispatch_event arrow f) ≡ false
-unfolding end_of placed
+unfolding arrow_end placed_slice
 dispatch_whole arrow f = refl
 
 process_whole : has_float process ≡ false

@@ -15,29 +15,29 @@ abbrev pub message_name : ℕ → ℕ → Option ℕ → List ℕ
 message_name handler what None = codes "handler " ++ decimal handler ++ codes " what " ++ decimal what
 message_name handler what (Some c) = codes "handler " ++ decimal handler ++ codes " callback " ++ decimal c
 
-abbrev pub dispatch_name : Flow → List ℕ
-dispatch_name f = message_name f.sent.post.handler f.sent.post.what f.sent.post.callback
+abbrev pub flow_name : Flow → List ℕ
+flow_name f = message_name f.sent.post.handler f.sent.post.what f.sent.post.callback
 
 abbrev pub post_name : Flow → List ℕ
-post_name f = codes "post to looper " ++ decimal f.looper ++ codes " " ++ dispatch_name f
+post_name f = codes "post to looper " ++ decimal f.looper ++ codes " " ++ flow_name f
 
 -- a slice of a millisecond in a sender's thread, at a time in milliseconds
-unfoldable pub placed : List ℕ → ℕ → ℕ → Members
-placed name thread time =
+unfoldable pub placed_slice : List ℕ → ℕ → ℕ → Members
+placed_slice name thread time =
     slice 1000 (put (codes "ts") (count (saturated (time * 1000))) (put (codes "tid") (count thread)
     (put (codes "pid") (count 1) (put (codes "name") (string name) no_members))))
 
 -- a slice as an end of an arrow, with the message's number; the arrow's number ties both ends
-unfoldable pub end_of : List ℕ → ℕ → ℕ → Members → Data
-end_of way arrow message ms = object (put way (boolean true) (put (codes "bind_id") (count arrow) (argued (codes "number") (count message) ms)))
+unfoldable pub arrow_end : List ℕ → ℕ → ℕ → Members → Data
+arrow_end way arrow message ms = object (put way (boolean true) (put (codes "bind_id") (count arrow) (argued (codes "number") (count message) ms)))
 
 -- the slice of the post, where the arrow begins
 abbrev pub post_event : ℕ → Flow → Data
-post_event arrow f = end_of (codes "flow_out") arrow f.number (placed (post_name f) f.sent.sender f.sent.time)
+post_event arrow f = arrow_end (codes "flow_out") arrow f.number (placed_slice (post_name f) f.sent.sender f.sent.time)
 
 -- the slice of the dispatch, where the arrow ends
 abbrev pub dispatch_event : ℕ → Flow → Data
-dispatch_event arrow f = end_of (codes "flow_in") arrow f.number (placed (dispatch_name f) f.taker f.time)
+dispatch_event arrow f = arrow_end (codes "flow_in") arrow f.number (placed_slice (flow_name f) f.taker f.time)
 
 -- both ends of each arrow; arrows are numbered from this number on
 abbrev pub arrows_from : ℕ → List Flow → List Data

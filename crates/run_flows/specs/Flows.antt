@@ -15,13 +15,13 @@ use Rattle.run_flows.specs.declared.flow.Sent.{Sent}
 use Rattle.run_flows.specs.declared.flow.Flow.{Flow}
 
 -- the post that an entry adds at this time of the queue
-abbrev pub sent_by : ℕ → Entry → Option Sent
-sent_by time e = option_map (λ p. record { post = p; sender = e.sender; time = time }) (accepted_post e)
+abbrev pub added_post : ℕ → Entry → Option Sent
+added_post time e = option_map (λ p. record { post = p; sender = e.sender; time = time }) (accepted_post e)
 
 -- the accepted posts, in order; a queue's time is the greatest moment of the entries before
 abbrev pub sent_from : ℕ → List Entry → List Sent
 sent_from time [] = []
-sent_from time (e ∷ es) = option_to_list (sent_by time e) ++ sent_from (max time (moment_of e.call)) es
+sent_from time (e ∷ es) = option_to_list (added_post time e) ++ sent_from (max time (moment_of e.call)) es
 
 -- the arrow to a dispatch, from the accepted post of its number, where there is one
 abbrev pub flow_by : List Sent → ℕ → ℕ → Call → Reply → Option Flow

@@ -3,7 +3,7 @@ ghost use Rattle.std.specs.Prelude.{◌≡◌, ◌++◌, ◌*◌, IfOk, OnOk, ma
 ghost use Rattle.serde_json.specs.Data.{boolean, put};
 ghost use Rattle.serde_json.specs.View.{members_view, view};
 ghost use Rattle.run_picture.specs.Rows.{saturated};
-ghost use Rattle.run_flows.specs.Events.{arrows_from, dispatch_event, dispatch_name, end_of, placed, post_event, post_name};
+ghost use Rattle.run_flows.specs.Events.{arrows_from, dispatch_event, flow_name, arrow_end, placed_slice, post_event, post_name};
 
 use crate::flow::Flow;
 use loop_model::NoMemory;
@@ -16,7 +16,7 @@ const LASTS: u64 = 1000;
 
 /// The name of a dispatch's slice.
 fn dispatch_name(alloc: Global, flow: &Flow) -> Result<String, NoMemory>
-    ensures { IfOk result (λ name. string_bytes name ≡ dispatch_name flow.now) }
+    ensures { IfOk result (λ name. string_bytes name ≡ flow_name flow.now) }
 {
     let handler = flow.sent.post.handler;
     let name = match flow.sent.post.callback {
@@ -47,14 +47,14 @@ fn micros(time: u64) -> u64
 }
 
 /// A slice of this name in a sender's thread, at a time in milliseconds.
-#[tactic(auto, unfolding(crate::specs::Events::placed))]
+#[tactic(auto, unfolding(crate::specs::Events::placed_slice))]
 fn placed(
     alloc: Global,
     name: String,
     thread: u32,
     time: u64,
 ) -> Result<Map<String, Value>, NoMemory>
-    ensures { IfOk result (λ members. members_view members.entries ≡ placed (string_bytes name) thread time) }
+    ensures { IfOk result (λ members. members_view members.entries ≡ placed_slice (string_bytes name) thread time) }
 {
     let mut members = Map::new(alloc);
     put_text(alloc, &mut members, "name", name)?;
@@ -81,7 +81,7 @@ fn end_of(
     arrow: u64,
     message: u64,
 ) -> Result<Value, NoMemory>
-    ensures { IfOk result (λ value. view value ≡ end_of way.now arrow message (members_view slice.entries)) }
+    ensures { IfOk result (λ value. view value ≡ arrow_end way.now arrow message (members_view slice.entries)) }
 {
     let mut members = slice;
     put_counted(alloc, &mut members, "number", message)?;

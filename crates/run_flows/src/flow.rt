@@ -2,7 +2,7 @@
 ghost use Rattle.std.specs.Prelude.{◌≡◌, ◌++◌, IfOk, OnOk, option_to_list};
 ghost use Rattle.std.specs.List.{filter_map, flat_map};
 ghost use Rattle.loop_model.specs.Posts.{accepted_post};
-ghost use Rattle.run_flows.specs.Flows.{flow_to, flows, queue_flows, sent_by, sent_from};
+ghost use Rattle.run_flows.specs.Flows.{flow_to, flows, queue_flows, added_post, sent_from};
 
 use loop_model::{Call, Entry, NoMemory, Post, Reply};
 use std::alloc::Global;
@@ -63,7 +63,7 @@ fn accepted_post(entry: &Entry) -> Option<Post>
 
 /// The post that an entry adds at this time of the queue.
 fn sent_by(time: u64, entry: &Entry) -> Option<Sent>
-    ensures { result ≡ sent_by time entry.now }
+    ensures { result ≡ added_post time entry.now }
 {
     let post = accepted_post(entry)?;
     let sender = entry.sender;

@@ -15,11 +15,11 @@ use Rattle.frame_phases.specs.Parting.{dealt_to, AreParted}
 use Rattle.dash_script.specs.declared.script.Line.{Line}
 use Rattle.dash_script.specs.declared.script.Block.{Block}
 use Rattle.dash_script.specs.declared.script.Script.{Script}
-use Rattle.run_model.specs.Planned.{Timed, lines_of, frame_due}
+use Rattle.run_model.specs.Planned.{TimedCommand, lines_of, frame_due}
 use Rattle.run_model.specs.Parts.{lines_in, asks_to_run}
 use Rattle.run_model.specs.FrameRecords.{FrameAt, nanos_of, FrameAsk, Posts, Removes, Runs, asked_in, asks_in, line_asks, as_told, TimedAsk, in_block, in_round}
 use Rattle.run_model.specs.FrameRecords.{lines_ask_then, asked_for, asked_in_rounds, timed_as_told, AreAskedInTurn}
-use Rattle.run_model.specs.Loopers.{Looper, asked_then}
+use Rattle.run_model.specs.Loopers.{LooperState, asked_then}
 use Rattle.run_model.specs.AskedSoFar.{lines_ask, Rise, second, timed_of, asks_of, HaveAsked, asked_so_far}
 
 -- ---- lists
@@ -240,7 +240,7 @@ parted_in_turn asks by_sender h =
 
 -- ---- the run of a script
 
-lines_then_asks : (q : ℕ) (ls : List Timed) → asks_of (lines_ask_then q ls) ≡ lines_ask q ls
+lines_then_asks : (q : ℕ) (ls : List TimedCommand) → asks_of (lines_ask_then q ls) ≡ lines_ask q ls
 lines_then_asks q [] = refl
 lines_then_asks q (l ∷ ls) = by_case (line_asks q l) (lines_then_asks q ls)
   where
@@ -347,7 +347,7 @@ module _ (threads q last : ℕ) (past : List Block) (made more : List (ℕ × Fr
       goes_on k = elim (cases_lt k threads) [
         | inl lt ↦
             (λ i. by_thread threads k (lines_ask_then q (lines_of k past)) (asked_in_rounds (asks_in (dealt_to k made))) lt i ++ thread_gets k lt i)
-            ∙ (sym (filter_map-append (λ (l : Timed). option_map (λ (a : FrameAsk). at_time (in_block l.time) a) (line_asks q l)) (lines_of k past) (lines_in k b))
+            ∙ (sym (filter_map-append (λ (l : TimedCommand). option_map (λ (a : FrameAsk). at_time (in_block l.time) a) (line_asks q l)) (lines_of k past) (lines_in k b))
             ∙ (ap (lines_ask_then q) (sym (lines_more k past b))
             ∙ sym (by_thread threads k (lines_ask_then q (lines_of k (past ++ b ∷ []))) (asked_in_rounds (asks_in (dealt_to k (made ++ more)))) lt)))
         | inr le ↦
@@ -420,7 +420,7 @@ part_of_two x y P first other none (suc zero) = other
 part_of_two x y P first other none (suc (suc k)) = none (suc (suc k)) (omega arith)
 
 -- behind the whole script: what was recorded is asked in turn by the threads and the looper, whose frames are those and whose posts are those of what it has come to
-pub all_asked : (s : Script) (q last : ℕ) (made : List (ℕ × FrameEntry)) (a : Looper) → HaveAsked last made (asked_so_far s.threads q s.blocks made)
+pub all_asked : (s : Script) (q last : ℕ) (made : List (ℕ × FrameEntry)) (a : LooperState) → HaveAsked last made (asked_so_far s.threads q s.blocks made)
     → asks_in (dealt_to s.threads made) ≡ asks_to_run a.frames → asks_in (dealt_to (s.threads + 1) made) ≡ a.posted → ((k : ℕ) → s.threads + 2 ≤ k → dealt_to k made ≡ [])
     → AreAskedInTurn true (asks_in (second made)) (asked_then s q a)
 all_asked s q last made a h ran posted idle = asked_in_turn last made (asked_so_far s.threads q s.blocks made) h (asked_then s q a) same
@@ -448,10 +448,10 @@ all_asked s q last made a h ran posted idle = asked_in_turn last made (asked_so_
     ]
 
 -- what each asks of a looper's choreographer, without its times
-abbrev pub asked_of : Script → ℕ → Looper → List (List FrameAsk)
+abbrev pub asked_of : Script → ℕ → LooperState → List (List FrameAsk)
 asked_of s q final = map (λ thread. lines_ask q (lines_of thread s.blocks)) (range_with_len 0 s.threads) ++ asks_to_run final.frames ∷ final.posted ∷ []
 
-pub then_asks : (s : Script) (q : ℕ) (a : Looper) → map asks_of (asked_then s q a) ≡ asked_of s q a
+pub then_asks : (s : Script) (q : ℕ) (a : LooperState) → map asks_of (asked_then s q a) ≡ asked_of s q a
 then_asks s q a =
     map-append asks_of (map (λ k. lines_ask_then q (lines_of k s.blocks)) (range_with_len 0 s.threads)) (asked_in_rounds (asks_to_run a.frames) ∷ asked_in_rounds a.posted ∷ [])
     ∙ (λ i. (map_both (λ k. lines_ask_then q (lines_of k s.blocks)) asks_of (range_with_len 0 s.threads)

@@ -13,12 +13,12 @@ use Rattle.loop_model.specs.declared.record.QueueRecord.{QueueRecord}
 use Rattle.loop_model.specs.Base.{empty_base}
 use Rattle.loop_model.specs.Chain.{IsChainFrom}
 use Rattle.loop_model.specs.Answers.{Setting, clock, answer}
-use Rattle.loop_model.specs.Legal.{IsMoment, IsTimely, IsLegal, IsLegalAfter, made_count, is_control, AreNumbered, AreNumberedAfter}
+use Rattle.loop_model.specs.Legal.{FitsTime, CallFitsTime, IsLegal, IsLegalAfter, made_count, is_control, AreNumbered, AreNumberedAfter}
 use Rattle.dash_script.specs.declared.script.Script.{Script}
-use Rattle.run_model.specs.Planned.{history_of, plain, call_of, token_in, entries_by, AreFor, sender_count, Timed, lines_of, labels_on, lines_on, planned}
+use Rattle.run_model.specs.Planned.{history_of, bare_call, call_of, token_in, entries_by, AreFor, sender_count, TimedCommand, lines_of, labels_on, lines_on, planned}
 use Rattle.run_model.specs.Planned.{IsNoEarlier, IsPlanned}
 use Rattle.run_model.specs.Moments.{in_lockstep}
-use Rattle.run_model.specs.Run.{setting_of, IsRecordOf}
+use Rattle.run_model.specs.Run.{record_setting, IsRecordOf}
 use Rattle.run_model.specs.Parts.{all_entries}
 
 -- the replies that a queue gives, behind these entries
@@ -45,11 +45,11 @@ abbrev pub are_timely : Setting → Base → List Entry → List Entry → Bool
 are_timely s b past [] = true
 are_timely s b past (e ∷ es) = is_timely s.lockstep (clock b past) e.call && are_timely s b (past ++ e ∷ []) es
 
-moment_by : (lockstep : Bool) (time now : ℕ) → is_moment lockstep time now ≡ true → IsMoment lockstep time now
+moment_by : (lockstep : Bool) (time now : ℕ) → is_moment lockstep time now ≡ true → FitsTime lockstep time now
 moment_by true time now h = grind (arith, nat_tests)
 moment_by false time now h = grind (arith, nat_tests)
 
-timely_by : (lockstep : Bool) (time : ℕ) (c : Call) → is_timely lockstep time c ≡ true → IsTimely lockstep time c
+timely_by : (lockstep : Bool) (time : ℕ) (c : Call) → is_timely lockstep time c ≡ true → CallFitsTime lockstep time c
 timely_by lockstep time (call.Post p) h = tt
 timely_by lockstep time (call.Barrier now) h = moment_by lockstep time now h
 timely_by lockstep time (call.Unbarrier t) h = tt
@@ -95,28 +95,28 @@ numbered_after s b past (e ∷ es) h =
 
 -- a queue's record in lockstep
 pub history_by : (s : Script) (r : QueueRecord) → r.main ≡ (r.looper == 0) → r.lockstep ≡ true → r.senders ≡ sender_count s → IsChainFrom (empty_base r.senders) r.segments
-    → answers (setting_of r) (empty_base r.senders) [] (history_of r) ≡ replies (history_of r) → are_timely (setting_of r) (empty_base r.senders) [] (history_of r) ≡ true
-    → are_numbered (setting_of r) (empty_base r.senders) [] (history_of r) ≡ true → IsRecordOf in_lockstep all_entries s r
+    → answers (record_setting r) (empty_base r.senders) [] (history_of r) ≡ replies (history_of r) → are_timely (record_setting r) (empty_base r.senders) [] (history_of r) ≡ true
+    → are_numbered (record_setting r) (empty_base r.senders) [] (history_of r) ≡ true → IsRecordOf in_lockstep all_entries s r
 unfolding IsLegal AreNumbered
 history_by s r main lockstep senders chain same timely numbered = record {
   main = main;
   lockstep = lockstep;
   senders = senders;
   chain = chain;
-  legal = legal_after (setting_of r) (empty_base r.senders) [] (history_of r) same timely;
-  numbered = numbered_after (setting_of r) (empty_base r.senders) [] (history_of r) numbered;
+  legal = legal_after (record_setting r) (empty_base r.senders) [] (history_of r) same timely;
+  numbered = numbered_after (record_setting r) (empty_base r.senders) [] (history_of r) numbered;
   clocked = tt;
 }
 
 -- the calls that lines plan, for these entries
-abbrev pub planned_calls : Script → List ℕ → ℕ → List ℕ → List Timed → List Entry → List (Option Call)
+abbrev pub planned_calls : Script → List ℕ → ℕ → List ℕ → List TimedCommand → List Entry → List (Option Call)
 planned_calls s labels q tokens [] es = []
 planned_calls s labels q tokens (l ∷ ls) [] = None ∷ []
 planned_calls s labels q tokens (l ∷ ls) (e ∷ es) =
     option_map (call_of tokens) (planned s labels q l.time l.command) ∷ planned_calls s labels q (tokens ++ token_in e.reply) ls es
 
 abbrev pub made_calls : List Entry → List (Option Call)
-made_calls es = map (λ e. Some (plain e.call)) es
+made_calls es = map (λ e. Some (bare_call e.call)) es
 
 no_earlier : (time : ℕ) (c : Call) → IsNoEarlier in_lockstep time c
 no_earlier time (call.Post p) = tt
@@ -128,18 +128,18 @@ no_earlier time (call.Next now) = tt
 no_earlier time (call.Advance now) = tt
 no_earlier time (call.Halt now) = tt
 
-pub calls_by : (s : Script) (labels : List ℕ) (q : ℕ) (tokens : List ℕ) (ls : List Timed) (es : List Entry)
+pub calls_by : (s : Script) (labels : List ℕ) (q : ℕ) (tokens : List ℕ) (ls : List TimedCommand) (es : List Entry)
     → planned_calls s labels q tokens ls es ≡ made_calls es → AreFor (IsPlanned in_lockstep s labels q) tokens ls es
 calls_by s labels q tokens [] [] same = tt
 calls_by s labels q tokens [] (e ∷ es) same = cc
 calls_by s labels q tokens (l ∷ ls) [] same = cc
 calls_by s labels q tokens (l ∷ ls) (e ∷ es) same =
-    let first : option_map (call_of tokens) (planned s labels q l.time l.command) ≡ Some (plain e.call) = cc in
+    let first : option_map (call_of tokens) (planned s labels q l.time l.command) ≡ Some (bare_call e.call) = cc in
     let rest : planned_calls s labels q (tokens ++ token_in e.reply) ls es ≡ made_calls es = cc in
     (record { uptime = l.time; allowed = refl; call = first; no_earlier = no_earlier l.time e.call }, calls_by s labels q (tokens ++ token_in e.reply) ls es rest)
 
 -- the lines of a thread that make a call on the queue
-abbrev pub thread_lines : Script → ℕ → ℕ → List Timed
+abbrev pub thread_lines : Script → ℕ → ℕ → List TimedCommand
 thread_lines s q thread = lines_on s (labels_on q (lines_of thread s.blocks)) q (lines_of thread s.blocks)
 
 -- the thread's entries there are those calls

@@ -11,7 +11,7 @@ use Rattle.loop_model.specs.Legal.{IsLegal, AreNumbered, made_count}
 use Rattle.loop_model.specs.Live.{live}
 use Rattle.loop_model.specs.Pick.{first_eligible, pick}
 use Rattle.loop_model.specs.Fates.{fates}
-use Rattle.frame_phases.specs.Frames.{lawful, all_allowed, is_allowed, owed}
+use Rattle.frame_phases.specs.Frames.{lawful, all_allowed, is_allowed, owed_callbacks}
 use Rattle.loop_model.specs.declared.journal.Act.{Act}
 use Rattle.loop_model.specs.declared.journal.Journal.{Journal}
 use Rattle.loop_model.specs.declared.record.QueueRecord.{QueueRecord}
@@ -23,8 +23,8 @@ use Rattle.run_model.specs.ByClock.{in_free_mode}
 use Rattle.run_model.specs.Loopers.{asked_then, after_act, first_looper}
 use Rattle.run_model.specs.FrameRecords.{timed_as_told}
 use Rattle.run_model.proofs.AskedInTurn.{rising_sorted}
-use Rattle.run_model.specs.Run.{IsRun, IsRecordOf, IsControlled, IsFrameRun, IsLooperRun, setting_of}
-use Rattle.run_model.specs.Text.{text, lines}
+use Rattle.run_model.specs.Run.{IsRun, IsRecordOf, IsControlled, IsFrameRun, IsLooperRun, record_setting}
+use Rattle.run_model.specs.Text.{report_text, report_lines}
 use Rattle.run_model.proofs.Below.{each_below}
 use Rattle.run_model.proofs.Table.{led}
 use Rattle.run_model.proofs.Examples.{entry, message, journal, frames, page}
@@ -71,12 +71,12 @@ journal_0 = journal 0 acts
 abbrev report : Report
 report = report_by script 5 entries acts
 
-legal : IsLegal (setting_of queue_0) (empty_base 3) entries
+legal : IsLegal (record_setting queue_0) (empty_base 3) entries
 unfolding IsLegal answer clock accepted_count barrier_count quit_place has_disposed has_halted live first_eligible pick
 legal =
     (record { reply = refl; timely = tt }, (record { reply = refl; timely = tt }, (record { reply = refl; timely = lit≤ tt }, (record { reply = refl; timely = lit≤ tt }, (record { reply = refl; timely = lit≤ tt }, tt)))))
 
-numbered : AreNumbered (setting_of queue_0) (empty_base 3) entries
+numbered : AreNumbered (record_setting queue_0) (empty_base 3) entries
 unfolding AreNumbered made_count
 numbered =
     (record { known = lit< tt; counted = refl; controller = λ h. cc }, (record { known = lit< tt; counted = refl; controller = λ h. cc }, (record { known = lit< tt; counted = refl; controller = λ h. cc }, (record { known = lit< tt; counted = refl; controller = λ h. cc }, (record { known = lit< tt; counted = refl; controller = λ h. refl }, tt)))))
@@ -97,7 +97,7 @@ unfolding is_controlled
 controlled = refl
 
 frame_run : IsFrameRun script (frames 0 [])
-unfolding lawful all_allowed is_allowed owed
+unfolding lawful all_allowed is_allowed owed_callbacks
 frame_run = record {
   interval = refl;
   phases = refl;
@@ -140,6 +140,6 @@ is_run = record {
   timely = record { halted = refl; before_quit = (refl, tt); histories = tt; moves = tt };
 }
 
-pub printed : text report ≡ page (codes "report 1" ∷ codes "looper 0" ∷ codes "25 dispatch 0 0 7" ∷ codes "30 dispatch 1 0 8" ∷ codes "fates accepted 2 dispatched 2 removed 0 dropped 0 stranded 0 queued 0" ∷ codes "end" ∷ [])
-unfolding text lines fates digits
+pub printed : report_text report ≡ page (codes "report 1" ∷ codes "looper 0" ∷ codes "25 dispatch 0 0 7" ∷ codes "30 dispatch 1 0 8" ∷ codes "fates accepted 2 dispatched 2 removed 0 dropped 0 stranded 0 queued 0" ∷ codes "end" ∷ [])
+unfolding report_text report_lines fates digits
 printed = refl

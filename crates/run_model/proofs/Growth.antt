@@ -9,7 +9,7 @@ use Rattle.frame_phases.specs.declared.entry.FrameEntry.{FrameEntry}
 use Rattle.dash_script.specs.declared.script.Script.{Script}
 use Rattle.loop_model.specs.declared.journal.Act.{Act}
 use Rattle.loop_model.specs.declared.journal.Act.TheVariants.{Dispatch, Idle, Event, Vsync, Paint}
-use Rattle.run_model.specs.Loopers.{Looper, starts_frame, dispatched, after_act, MayCome, Lead}
+use Rattle.run_model.specs.Loopers.{LooperState, starts_frame, dispatched, after_act, MayCome, ActsLead}
 
 pub slice_get-append : {X : Type 0} (xs ys : List X) (i : ℕ) → is_some (slice_get xs i) ≡ true → slice_get (xs ++ ys) i ≡ slice_get xs i
 slice_get-append [] ys i h = cc
@@ -22,7 +22,7 @@ post_at-grows es more n h =
     ap (λ l. slice_get l n) (filter_map-append accepted_post es more) ∙ slice_get-append (accepted_posts es) (accepted_posts more) n h
 
 module _ (s : Script) (q : ℕ) (es : List Entry) (fs : List FrameEntry) where
-  after_act-entries : (more : List Entry) (frame : Option ℕ) (a : Looper) (x : Act) → MayCome s q es fs frame a x → after_act s q (es ++ more) fs frame a x ≡ after_act s q es fs frame a x
+  after_act-entries : (more : List Entry) (frame : Option ℕ) (a : LooperState) (x : Act) → MayCome s q es fs frame a x → after_act s q (es ++ more) fs frame a x ≡ after_act s q es fs frame a x
   unfolding after_act
   after_act-entries more frame a (Dispatch n now route) h =
       ap (λ o. record (dispatched s q fs frame n now a o) { painted = [] }) (post_at-grows es more n h.accepted)
@@ -31,7 +31,7 @@ module _ (s : Script) (q : ℕ) (es : List Entry) (fs : List FrameEntry) where
   after_act-entries more frame a (Idle i k) h = refl
   after_act-entries more frame a (Event f e m) h = refl
 
-  MayCome-entries : (more : List Entry) (frame : Option ℕ) (a : Looper) (x : Act) → MayCome s q es fs frame a x → MayCome s q (es ++ more) fs frame a x
+  MayCome-entries : (more : List Entry) (frame : Option ℕ) (a : LooperState) (x : Act) → MayCome s q es fs frame a x → MayCome s q (es ++ more) fs frame a x
   MayCome-entries more frame a (Dispatch n now route) h =
       let same = post_at-grows es more n h.accepted in
       record {
@@ -48,7 +48,7 @@ module _ (s : Script) (q : ℕ) (es : List Entry) (fs : List FrameEntry) where
   MayCome-entries more frame a (Event f e m) h = h
 
   -- more entries on the queue change nothing
-  pub Lead-entries : (more : List Entry) (a : Looper) (xs : List Act) (b : Looper) → Lead s q es fs a xs b → Lead s q (es ++ more) fs a xs b
-  Lead-entries more a [] b h = h
-  Lead-entries more a (x ∷ xs) b h =
-      (h.0, (MayCome-entries more h.0 a x h.1.0, subst (λ c. Lead s q (es ++ more) fs c xs b) (sym (after_act-entries more h.0 a x h.1.0)) (Lead-entries more (after_act s q es fs h.0 a x) xs b h.1.1)))
+  pub ActsLead-entries : (more : List Entry) (a : LooperState) (xs : List Act) (b : LooperState) → ActsLead s q es fs a xs b → ActsLead s q (es ++ more) fs a xs b
+  ActsLead-entries more a [] b h = h
+  ActsLead-entries more a (x ∷ xs) b h =
+      (h.0, (MayCome-entries more h.0 a x h.1.0, subst (λ c. ActsLead s q (es ++ more) fs c xs b) (sym (after_act-entries more h.0 a x h.1.0)) (ActsLead-entries more (after_act s q es fs h.0 a x) xs b h.1.1)))

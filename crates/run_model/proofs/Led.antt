@@ -12,7 +12,7 @@ use Rattle.loop_model.specs.Posts.{post_at}
 use Rattle.frame_phases.specs.declared.entry.FrameEntry.{FrameEntry}
 use Rattle.frame_phases.specs.Pulses.{comes_after}
 use Rattle.dash_script.specs.declared.script.Script.{Script}
-use Rattle.run_model.specs.Loopers.{Looper, starts_frame, Lead, MayCome, after_act, dispatched}
+use Rattle.run_model.specs.Loopers.{LooperState, starts_frame, ActsLead, MayCome, after_act, dispatched}
 use Rattle.run_model.specs.FrameRecords.{is_begin, has_stamp}
 
 -- the places at which frames begin
@@ -29,7 +29,7 @@ choices q es fs (Idle i k) = None ∷ []
 choices q es fs (Event f e m) = None ∷ []
 
 -- where it runs this frame, a dispatch paints as much as was painted just before
-abbrev paints_so : Script → ℕ → List Entry → List FrameEntry → Looper → Act → Option ℕ → Bool
+abbrev paints_so : Script → ℕ → List Entry → List FrameEntry → LooperState → Act → Option ℕ → Bool
 paints_so s q es fs a (Dispatch n now route) frame = length (dispatched s q fs frame n now a (post_at es n)).painted == length a.painted
 paints_so s q es fs a (Paint g v) frame = true
 paints_so s q es fs a (Vsync stamp) frame = true
@@ -37,7 +37,7 @@ paints_so s q es fs a (Idle i k) frame = true
 paints_so s q es fs a (Event f e m) frame = true
 
 -- a frame that it runs has the stamp of the latest pulse, which awaits it, and a pulse comes after that one and once its frame is awaited no more
-abbrev stamped_so : List FrameEntry → Looper → Act → Option ℕ → Bool
+abbrev stamped_so : List FrameEntry → LooperState → Act → Option ℕ → Bool
 stamped_so fs a (Dispatch n now route) frame = has_stamp fs frame a.stamp && (not (is_some frame) || a.awaits)
 stamped_so fs a (Paint g v) frame = true
 stamped_so fs a (Vsync stamp) frame = comes_after a.stamp stamp && not a.awaits
@@ -45,7 +45,7 @@ stamped_so fs a (Idle i k) frame = true
 stamped_so fs a (Event f e m) frame = true
 
 -- something that the acts may lead to passes
-abbrev pub any_led : (Looper → Bool) → Script → ℕ → List Entry → List FrameEntry → Looper → List Act → Bool
+abbrev pub any_led : (LooperState → Bool) → Script → ℕ → List Entry → List FrameEntry → LooperState → List Act → Bool
 any_led passes s q es fs a [] = passes a
 any_led passes s q es fs a (x ∷ xs) =
     list_any (λ (frame : Option ℕ). paints_so s q es fs a x frame && stamped_so fs a x frame && any_led passes s q es fs (after_act s q es fs frame a x) xs) (choices q es fs x)
@@ -67,7 +67,7 @@ begins_there test n (e ∷ fs) (suc place) begins passes =
 only : (test : Option ℕ → Bool) (frame : Option ℕ) → frame ≡ None → test frame ≡ true → list_any test (None ∷ []) ≡ true
 only test frame is passes = let now : test None ≡ true = subst (λ (o : Option ℕ). test o ≡ true) is passes in rw now refl
 
-chosen : (s : Script) (q : ℕ) (es : List Entry) (fs : List FrameEntry) (frame : Option ℕ) (a : Looper) (x : Act) (test : Option ℕ → Bool) → MayCome s q es fs frame a x → test frame ≡ true
+chosen : (s : Script) (q : ℕ) (es : List Entry) (fs : List FrameEntry) (frame : Option ℕ) (a : LooperState) (x : Act) (test : Option ℕ → Bool) → MayCome s q es fs frame a x → test frame ≡ true
     → list_any test (choices q es fs x) ≡ true
 chosen s q es fs None a (Dispatch n now route) test comes passes = rw passes refl
 chosen s q es fs (Some place) a (Dispatch n now route) test comes passes =
@@ -83,14 +83,14 @@ chosen s q es fs frame a (Vsync stamp) test comes passes = only test frame comes
 chosen s q es fs frame a (Idle i k) test comes passes = only test frame comes.0 passes
 chosen s q es fs frame a (Event f e m) test comes passes = only test frame comes.0 passes
 
-paints_as_told : (s : Script) (q : ℕ) (es : List Entry) (fs : List FrameEntry) (frame : Option ℕ) (a : Looper) (x : Act) → MayCome s q es fs frame a x → paints_so s q es fs a x frame ≡ true
+paints_as_told : (s : Script) (q : ℕ) (es : List Entry) (fs : List FrameEntry) (frame : Option ℕ) (a : LooperState) (x : Act) → MayCome s q es fs frame a x → paints_so s q es fs a x frame ≡ true
 paints_as_told s q es fs frame a (Dispatch n now route) comes = eq-eqb (length (dispatched s q fs frame n now a (post_at es n)).painted) (length a.painted) (ap length comes.painted)
 paints_as_told s q es fs frame a (Paint g v) comes = refl
 paints_as_told s q es fs frame a (Vsync stamp) comes = refl
 paints_as_told s q es fs frame a (Idle i k) comes = refl
 paints_as_told s q es fs frame a (Event f e m) comes = refl
 
-stamped_as_told : (s : Script) (q : ℕ) (es : List Entry) (fs : List FrameEntry) (frame : Option ℕ) (a : Looper) (x : Act) → MayCome s q es fs frame a x → stamped_so fs a x frame ≡ true
+stamped_as_told : (s : Script) (q : ℕ) (es : List Entry) (fs : List FrameEntry) (frame : Option ℕ) (a : LooperState) (x : Act) → MayCome s q es fs frame a x → stamped_so fs a x frame ≡ true
 stamped_as_told s q es fs frame a (Dispatch n now route) comes = and_from (has_stamp fs frame a.stamp) (not (is_some frame) || a.awaits) comes.stamped comes.awaited
 stamped_as_told s q es fs frame a (Paint g v) comes = refl
 stamped_as_told s q es fs frame a (Vsync stamp) comes = and_from (comes_after a.stamp stamp) (not a.awaits) comes.1.later (rw comes.1.awaited refl)
@@ -98,9 +98,9 @@ stamped_as_told s q es fs frame a (Idle i k) comes = refl
 stamped_as_told s q es fs frame a (Event f e m) comes = refl
 
 -- what the acts lead to is one of these
-pub led_passes : (passes : Looper → Bool) (s : Script) (q : ℕ) (es : List Entry) (fs : List FrameEntry) (a : Looper) (xs : List Act) (b : Looper) → Lead s q es fs a xs b
+pub led_passes : (passes : LooperState → Bool) (s : Script) (q : ℕ) (es : List Entry) (fs : List FrameEntry) (a : LooperState) (xs : List Act) (b : LooperState) → ActsLead s q es fs a xs b
     → passes b ≡ true → any_led passes s q es fs a xs ≡ true
-led_passes passes s q es fs a [] b is h = subst (λ (c : Looper). passes c ≡ true) (sym is) h
+led_passes passes s q es fs a [] b is h = subst (λ (c : LooperState). passes c ≡ true) (sym is) h
 led_passes passes s q es fs a (x ∷ xs) b (frame, (comes, rest)) h =
     chosen s q es fs frame a x (λ (o : Option ℕ). paints_so s q es fs a x o && stamped_so fs a x o && any_led passes s q es fs (after_act s q es fs o a x) xs) comes
     (and_from (paints_so s q es fs a x frame && stamped_so fs a x frame) _

@@ -16,7 +16,7 @@ use Rattle.loop_model.specs.declared.journal.Act.{Act}
 use Rattle.loop_model.specs.declared.journal.Act.TheVariants as act
 use Rattle.loop_model.specs.declared.journal.Route.TheVariants as route
 use Rattle.run_model.specs.Planned.{AreFor, entries_by}
-use Rattle.run_model.specs.Loopers.{Looper, IsSent, after_act}
+use Rattle.run_model.specs.Loopers.{LooperState, IsSent, after_act}
 use Rattle.run_model.proofs.Examples.{entry, message}
 use Rattle.run_model.specs.Moments.{in_lockstep}
 use Rattle.run_model.proofs.Table.{acting, report_of}
@@ -89,7 +89,7 @@ pub act_missing : IsRun in_lockstep script (with_entries two_posts_entries (disp
 unfolding after_act
 act_missing r =
     let l = r.loopers.0 in
-    (subst (λ (b : Looper). AreFor IsSent [] (caused_on 0 b 0 l.disposed_at) (entries_by 1 two_posts_entries)) (sym l.acts.1.1) l.calls.0).1
+    (subst (λ (b : LooperState). AreFor IsSent [] (caused_on 0 b 0 l.disposed_at) (entries_by 1 two_posts_entries)) (sym l.acts.1.1) l.calls.0).1
 
 -- a journal with a paint that nothing caused
 pub paint_of_nothing : IsRun in_lockstep script (with_entries two_posts_entries (act.Paint 0 1 ∷ dispatch 1 10 ∷ dispatch 0 15 ∷ [])) → ⊥

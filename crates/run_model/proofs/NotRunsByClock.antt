@@ -17,7 +17,7 @@ use Rattle.dash_script.specs.declared.script.Command.{Command}
 use Rattle.dash_script.specs.declared.script.Command.TheVariants as command
 use Rattle.dash_script.specs.declared.script.Script.{Script}
 use Rattle.run_model.specs.Control.{is_controlled, are_before_quit}
-use Rattle.run_model.specs.Moments.{IsMoment}
+use Rattle.run_model.specs.Moments.{IsMomentOf}
 use Rattle.run_model.specs.Run.{IsRun}
 use Rattle.run_model.specs.declared.report.Report.{Report}
 use Rattle.run_model.proofs.Examples.{entry, message, block, by, handler_on, plain_script, journal, frames}
@@ -35,7 +35,7 @@ when_in (Some (call.Post p)) = p.when
 when_in _ = 0
 
 -- the clock shows the multiples of 5 alone
-no_moment : (now : ℕ) → (now % 5 == 0) ≡ false → IsMoment mode now → ⊥
+no_moment : (now : ℕ) → (now % 5 == 0) ≡ false → IsMomentOf mode now → ⊥
 no_moment now not_shown m =
     let shown : (m.reading % 5 == 0) ≡ true = m.shown in
     grind (arith, nat_tests, m.since, not_shown, shown)
@@ -55,7 +55,7 @@ due_at_no_moment r =
     let p = (r.planned.0 0 (lit< tt)).1.0 in
     let when : min (p.uptime + 0) (2 ^ 64 - 1) ≡ 17 = ap when_in p.call in
     let counts_from : p.uptime ≡ 17 = omega (arith, when) in
-    no_moment 17 refl (subst (IsMoment mode) counts_from p.allowed.1)
+    no_moment 17 refl (subst (IsMomentOf mode) counts_from p.allowed.1)
 
 -- posts that are exchanged
 pub exchanged : IsNoRun (entry 0 0 (call.Post (message 0 8 15 None)) (reply.Accepted 0) ∷ entry 0 1 (call.Post (message 0 7 20 None)) (reply.Accepted 1) ∷ look 0 25 0 ∷ look 1 30 1 ∷ halt 40 ∷ []) acts

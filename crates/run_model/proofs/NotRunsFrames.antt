@@ -15,7 +15,7 @@ use Rattle.dash_script.specs.declared.script.Line.{Line}
 use Rattle.dash_script.specs.declared.script.Script.{Script}
 use Rattle.run_model.specs.Planned.{history_of}
 use Rattle.run_model.specs.Moments.{in_lockstep}
-use Rattle.run_model.specs.Loopers.{Looper, first_looper, asked_then}
+use Rattle.run_model.specs.Loopers.{LooperState, first_looper, asked_then}
 use Rattle.run_model.specs.FrameRecords.{asks_in}
 use Rattle.run_model.specs.Run.{IsRun}
 use Rattle.run_model.proofs.Examples.{entry, frame_message, halted_at, handler_on, block, by, plain_script, callback}
@@ -29,13 +29,13 @@ use Rattle.run_model.proofs.OneFault.{Faulty, faulty, Fails, each_fails}
 abbrev pub main_tells_asked : Script → List Row → Bool
 main_tells_asked s [] = true
 main_tells_asked s (row ∷ rows) =
-    any_led (λ (b : Looper). can_ask_in_turn (asks_in row.frames) (asked_then s 0 b)) s 0 (history_of (queue_in s 0 row)) row.frames (first_looper s) row.acts
+    any_led (λ (b : LooperState). can_ask_in_turn (asks_in row.frames) (asked_then s 0 b)) s 0 (history_of (queue_in s 0 row)) row.frames (first_looper s) row.acts
 
 pub told_by_run : (s : Script) (rows : List Row) → IsRun in_lockstep s (report_of s rows) → main_tells_asked s rows ≡ true
 told_by_run s [] r = refl
 told_by_run s (row ∷ rows) r =
     let l = r.loopers.0 in
-    led_passes (λ (b : Looper). can_ask_in_turn (asks_in row.frames) (asked_then s 0 b)) s 0 (history_of (queue_in s 0 row)) row.frames (first_looper s) row.acts l.final l.acts
+    led_passes (λ (b : LooperState). can_ask_in_turn (asks_in row.frames) (asked_then s 0 b)) s 0 (history_of (queue_in s 0 row)) row.frames (first_looper s) row.acts l.final l.acts
     (in_turn_can_ask (asks_in row.frames) (asked_then s 0 l.final) l.asked)
 
 -- a script with one line at its end, and this frame record

@@ -12,7 +12,7 @@ use Rattle.frame_phases.specs.declared.entry.FrameEntry.TheVariants as frame
 use Rattle.dash_script.specs.declared.script.Command.TheVariants as command
 use Rattle.dash_script.specs.declared.script.Script.{Script}
 use Rattle.run_model.specs.Moments.{in_lockstep}
-use Rattle.run_model.specs.Loopers.{Looper, first_looper}
+use Rattle.run_model.specs.Loopers.{LooperState, first_looper}
 use Rattle.run_model.specs.FrameRecords.{are_run_then, are_whole}
 use Rattle.run_model.specs.Run.{IsRun}
 use Rattle.run_model.proofs.Examples.{entry, handler_on, block, by, plain_script, message, frame_message, callback}
@@ -67,7 +67,7 @@ abbrev gauge_rows : List FrameEntry → List Row
 gauge_rows fs = frame_rows gauge_entries gauge_acts fs
 
 -- the frame of this record is whole, and starts and takes its phases at the times of its dispatch
-abbrev runs_whole : List FrameEntry → Looper → Bool
+abbrev runs_whole : List FrameEntry → LooperState → Bool
 runs_whole fs b = are_whole 4 fs b.frames && are_run_then fs b.frames
 
 abbrev may_run_whole : List FrameEntry → Bool

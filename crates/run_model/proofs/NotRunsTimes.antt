@@ -11,7 +11,7 @@ use Rattle.dash_script.specs.declared.script.Command.TheVariants as command
 use Rattle.dash_script.specs.declared.script.Script.{Script}
 use Rattle.run_model.specs.Moments.{in_lockstep}
 use Rattle.run_model.specs.Control.{befores, are_on_time}
-use Rattle.run_model.specs.Loopers.{Looper, first_looper, after_act, Lead}
+use Rattle.run_model.specs.Loopers.{LooperState, first_looper, after_act, ActsLead}
 use Rattle.run_model.specs.Run.{IsRun, caused_on}
 use Rattle.run_model.proofs.Examples.{entry, handler_on, block, by, plain_script, message}
 use Rattle.run_model.proofs.RunBut as but
@@ -61,10 +61,10 @@ abbrev reacted_acts : List Act
 reacted_acts = dispatch 0 10 ∷ dispatch 1 15 ∷ []
 
 -- when this looper's calls are to come, and what stood before them
-abbrev AreItsOnTime : Looper → Type 0
+abbrev AreItsOnTime : LooperState → Type 0
 AreItsOnTime b = are_on_time (map (λ x. x.timing) (caused_on 0 b 0 0)) (befores 1 reacted_entries) ≡ true
 
-late_by_acts : (b : Looper) → Lead rule_script 0 reacted_entries [] (first_looper rule_script) reacted_acts b → AreItsOnTime b → ⊥
+late_by_acts : (b : LooperState) → ActsLead rule_script 0 reacted_entries [] (first_looper rule_script) reacted_acts b → AreItsOnTime b → ⊥
 unfolding after_act befores clock has_disposed
 late_by_acts b (Some p, (comes, rest)) on_time = let starts : false ≡ true = comes.starts in cc
 late_by_acts b (None, (first, (Some p, (may, is)))) on_time = let starts : false ≡ true = may.starts in cc

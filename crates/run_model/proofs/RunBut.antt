@@ -21,7 +21,7 @@ use Rattle.run_model.specs.declared.report.Report.{Report}
 use Rattle.run_model.specs.Planned.{history_of, AreFor, entries_by, looper_sender, controller}
 use Rattle.run_model.specs.Moments.{in_lockstep}
 use Rattle.run_model.specs.Control.{is_called_in_time, are_before_quit, befores, are_on_time, Move, moves, move_times, main_moves, MayMoveTo}
-use Rattle.run_model.specs.Loopers.{Looper, first_looper, MayCome, after_act, Lead, IsSent, asked_then, has_frames}
+use Rattle.run_model.specs.Loopers.{LooperState, first_looper, MayCome, after_act, ActsLead, IsSent, asked_then, has_frames}
 use Rattle.run_model.specs.FrameRecords.{are_run_then, are_whole, asks_in, TimedAsk, AreAskedInTurn}
 use Rattle.run_model.specs.Run.{IsReportOf, AreRecordsOf, IsAsPlanned, IsControlled, IsFrameRun, caused_on, IsLooperRun, EachLooper, are_in_order, IsTimely, main_ends_halted, IsRun}
 use Rattle.run_model.specs.Parts.{all_entries, IsThreadOnTime, IsBeforeQuit}
@@ -101,7 +101,7 @@ with_pulses Pulses s = record s { period = 1 }
 with_pulses _ s = s
 
 -- a pulse comes to a looper as its first one
-abbrev first_pulse : Act → Looper → Looper
+abbrev first_pulse : Act → LooperState → LooperState
 first_pulse (Vsync stamp) a = record a { stamp = 0 }
 first_pulse (Dispatch n now route) a = a
 first_pulse (Paint g v) a = a
@@ -109,7 +109,7 @@ first_pulse (Idle i k) a = a
 first_pulse (Event f e m) a = a
 
 -- a pulse comes, and a frame runs, wherever one is awaited or not
-abbrev whenever : Act → Looper → Looper
+abbrev whenever : Act → LooperState → LooperState
 whenever (Vsync stamp) a = record a { awaits = false }
 whenever (Dispatch n now route) a = record a { awaits = true }
 whenever (Paint g v) a = a
@@ -117,13 +117,13 @@ whenever (Idle i k) a = a
 whenever (Event f e m) a = a
 
 -- where it is left out that pulses rise, each pulse comes as the first one; where it is left out that a pulse awaits its frame, it may come whenever
-abbrev pub before_act : Clause → Act → Looper → Looper
+abbrev pub before_act : Clause → Act → LooperState → LooperState
 before_act Rising x a = first_pulse x a
 before_act Awaited x a = whenever x a
 before_act _ x a = a
 
 -- the acts lead a looper from one state to another, but for the clause that is left out
-abbrev pub LeadBut : Clause → Script → ℕ → List Entry → List FrameEntry → Looper → List Act → Looper → Type 0
+abbrev pub LeadBut : Clause → Script → ℕ → List Entry → List FrameEntry → LooperState → List Act → LooperState → Type 0
 LeadBut out s q es fs a [] b = a ≡ b
 LeadBut out s q es fs a (x ∷ xs) b = (frame : Option ℕ) × (MayCome s q es fs frame (before_act out x a) x × LeadBut out s q es fs (after_act s q es fs frame a x) xs b)
 
@@ -146,7 +146,7 @@ with_stamps _ fs = fs
 
 -- a looper's run, but for the clause that is left out
 pub record IsLooperRunBut (out : Clause) (s : Script) (queues : List QueueRecord) (q : QueueRecord) (j : Journal) (f : FrameRecord) : Type 0 where
-  pub final : Looper
+  pub final : LooperState
   pub acts : LeadBut out (with_pulses out s) q.looper (history_of q) (with_stamps out f.entries) (first_looper s) j.acts final
   pub settled : final.painted ≡ []
   pub dispatches : Unless out Takes (filter_map act_dispatch j.acts ≡ filter_map (λ e. call_dispatch e.call e.reply) (entries_by (looper_sender s q.looper) (history_of q)))
@@ -198,7 +198,7 @@ each_looper P Q weaker (q ∷ qs) [] fs all = absurd all
 each_looper P Q weaker (q ∷ qs) (j ∷ js) [] all = absurd all
 each_looper P Q weaker (q ∷ qs) (j ∷ js) (f ∷ fs) all = (weaker q j f all.0, each_looper P Q weaker qs js fs all.1)
 
-all_lead : (s : Script) (q : ℕ) (es : List Entry) (fs : List FrameEntry) (a : Looper) (xs : List Act) (b : Looper) → LeadBut Nothing s q es fs a xs b → Lead s q es fs a xs b
+all_lead : (s : Script) (q : ℕ) (es : List Entry) (fs : List FrameEntry) (a : LooperState) (xs : List Act) (b : LooperState) → LeadBut Nothing s q es fs a xs b → ActsLead s q es fs a xs b
 all_lead s q es fs a [] b is = is
 all_lead s q es fs a (x ∷ xs) b (frame, (comes, rest)) = (frame, (comes, all_lead s q es fs (after_act s q es fs frame a x) xs b rest))
 

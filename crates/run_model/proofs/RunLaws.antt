@@ -9,11 +9,11 @@ use Rattle.frame_phases.specs.declared.entry.FrameEntry.{FrameEntry}
 use Rattle.dash_script.specs.declared.script.Script.{Script}
 use Rattle.loop_model.specs.declared.journal.Act.{Act}
 use Rattle.loop_model.specs.declared.journal.Act.TheVariants.{Dispatch, Idle, Event, Vsync, Paint}
-use Rattle.run_model.specs.Planned.{token_in, entries_by, AreFor, Timed, lines_on, IsPlanned}
+use Rattle.run_model.specs.Planned.{token_in, entries_by, AreFor, TimedCommand, lines_on, IsPlanned}
 use Rattle.run_model.specs.AskedSoFar.{tokens_in}
 use Rattle.run_model.specs.Moments.{Mode}
 use Rattle.run_model.specs.Parts.{MakeCalls, sent_on, befores_after}
-use Rattle.run_model.specs.Loopers.{Looper, Sent, after_act, MayCome, Lead}
+use Rattle.run_model.specs.Loopers.{LooperState, SentCall, after_act, MayCome, ActsLead}
 use Rattle.run_model.specs.Control.{Before, Timing, before, befores, befores_from, are_on_time}
 
 -- a sender's entries in a longer history
@@ -50,30 +50,30 @@ pub AreFor-snoc : {X : Type 0} (IsFor : List ℕ → X → Entry → Type 0) (xs
     → AreFor IsFor [] xs es → IsFor (tokens_in es) x e → AreFor IsFor [] (xs ++ x ∷ []) (es ++ e ∷ [])
 AreFor-snoc IsFor xs x es e h one = AreFor-append IsFor [] xs (x ∷ []) es (e ∷ []) h (one, tt)
 
-pub lines_on-append : (s : Script) (labels : List ℕ) (q : ℕ) (ls ms : List Timed) → lines_on s labels q (ls ++ ms) ≡ lines_on s labels q ls ++ lines_on s labels q ms
+pub lines_on-append : (s : Script) (labels : List ℕ) (q : ℕ) (ls ms : List TimedCommand) → lines_on s labels q (ls ++ ms) ≡ lines_on s labels q ls ++ lines_on s labels q ms
 lines_on-append s labels q ls ms = filter-append _ ls ms
 
 -- the calls of the lines so far, and that of the next line
-pub MakeCalls-line : (m : Mode) (s : Script) (labels : List ℕ) (q : ℕ) (ls : List Timed) (l : Timed) (es : List Entry) (e : Entry)
+pub MakeCalls-line : (m : Mode) (s : Script) (labels : List ℕ) (q : ℕ) (ls : List TimedCommand) (l : TimedCommand) (es : List Entry) (e : Entry)
     → MakeCalls m s labels q ls es → lines_on s labels q (l ∷ []) ≡ l ∷ [] → IsPlanned m s labels q (tokens_in es) l e
     → MakeCalls m s labels q (ls ++ l ∷ []) (es ++ e ∷ [])
 MakeCalls-line m s labels q ls l es e h on one =
     subst (λ xs. AreFor (IsPlanned m s labels q) [] xs (es ++ e ∷ [])) (sym (lines_on-append s labels q ls (l ∷ []) ∙ ap (λ xs. lines_on s labels q ls ++ xs) on)) (AreFor-snoc (IsPlanned m s labels q) (lines_on s labels q ls) l es e h one)
 
 -- a line that makes no call there
-pub MakeCalls-skip : (m : Mode) (s : Script) (labels : List ℕ) (q : ℕ) (ls : List Timed) (l : Timed) (es : List Entry)
+pub MakeCalls-skip : (m : Mode) (s : Script) (labels : List ℕ) (q : ℕ) (ls : List TimedCommand) (l : TimedCommand) (es : List Entry)
     → MakeCalls m s labels q ls es → lines_on s labels q (l ∷ []) ≡ [] → MakeCalls m s labels q (ls ++ l ∷ []) es
 MakeCalls-skip m s labels q ls l es h off =
     subst (λ xs. AreFor (IsPlanned m s labels q) [] xs es) (sym (lines_on-append s labels q ls (l ∷ []) ∙ (ap (λ xs. lines_on s labels q ls ++ xs) off ∙ append-nil (lines_on s labels q ls)))) h
 
 -- one more act
-pub Lead-snoc : (s : Script) (q : ℕ) (es : List Entry) (fs : List FrameEntry) (frame : Option ℕ) (a : Looper) (xs : List Act) (b : Looper) (x : Act)
-    → Lead s q es fs a xs b → MayCome s q es fs frame b x → Lead s q es fs a (xs ++ x ∷ []) (after_act s q es fs frame b x)
-Lead-snoc s q es fs frame a [] b x h may = (frame, (subst (λ c. MayCome s q es fs frame c x) (sym h) may, ap (λ c. after_act s q es fs frame c x) h))
-Lead-snoc s q es fs frame a (y ∷ xs) b x h may = (h.0, (h.1.0, Lead-snoc s q es fs frame (after_act s q es fs h.0 a y) xs b x h.1.1 may))
+pub ActsLead-snoc : (s : Script) (q : ℕ) (es : List Entry) (fs : List FrameEntry) (frame : Option ℕ) (a : LooperState) (xs : List Act) (b : LooperState) (x : Act)
+    → ActsLead s q es fs a xs b → MayCome s q es fs frame b x → ActsLead s q es fs a (xs ++ x ∷ []) (after_act s q es fs frame b x)
+ActsLead-snoc s q es fs frame a [] b x h may = (frame, (subst (λ c. MayCome s q es fs frame c x) (sym h) may, ap (λ c. after_act s q es fs frame c x) h))
+ActsLead-snoc s q es fs frame a (y ∷ xs) b x h may = (h.0, (h.1.0, ActsLead-snoc s q es fs frame (after_act s q es fs h.0 a y) xs b x h.1.1 may))
 
 -- the calls on one queue
-pub sent_on-append : (q : ℕ) (xs ys : List Sent) → sent_on q (xs ++ ys) ≡ sent_on q xs ++ sent_on q ys
+pub sent_on-append : (q : ℕ) (xs ys : List SentCall) → sent_on q (xs ++ ys) ≡ sent_on q xs ++ sent_on q ys
 sent_on-append q xs ys = filter-append (λ x. x.queue == q) xs ys
 
 -- what stood before the entries that pass, in a longer history
@@ -108,13 +108,13 @@ ArePaints [] = Unit {0}
 ArePaints (Paint g v ∷ xs) = ArePaints xs
 ArePaints (x ∷ xs) = ⊥
 
-pub Lead-paints : (s : Script) (q : ℕ) (es : List Entry) (fs : List FrameEntry) (a : Looper) (xs : List Act) (b : Looper) (ps : List Act)
-    → ArePaints ps → Lead s q es fs a xs b → Lead s q es fs a (xs ++ ps) (record b { painted = b.painted ++ ps })
+pub ActsLead-paints : (s : Script) (q : ℕ) (es : List Entry) (fs : List FrameEntry) (a : LooperState) (xs : List Act) (b : LooperState) (ps : List Act)
+    → ArePaints ps → ActsLead s q es fs a xs b → ActsLead s q es fs a (xs ++ ps) (record b { painted = b.painted ++ ps })
 unfolding after_act
-Lead-paints s q es fs a xs b [] h lead = subst (λ l. Lead s q es fs a l (record b { painted = b.painted ++ [] })) (sym (append-nil xs)) (subst (λ l. Lead s q es fs a xs (record b { painted = l })) (sym (append-nil b.painted)) lead)
-Lead-paints s q es fs a xs b (Paint g v ∷ ps) h lead =
-    subst (λ l. Lead s q es fs a l (record b { painted = b.painted ++ Paint g v ∷ ps })) (append_assoc xs (Paint g v ∷ []) ps) (subst (λ l. Lead s q es fs a ((xs ++ Paint g v ∷ []) ++ ps) (record b { painted = l })) (append_assoc b.painted (Paint g v ∷ []) ps) (Lead-paints s q es fs a (xs ++ Paint g v ∷ []) (record b { painted = b.painted ++ Paint g v ∷ [] }) ps h (Lead-snoc s q es fs None a xs b (Paint g v) lead refl)))
-Lead-paints s q es fs a xs b (Dispatch n now route ∷ ps) h lead = absurd h
-Lead-paints s q es fs a xs b (Idle i k ∷ ps) h lead = absurd h
-Lead-paints s q es fs a xs b (Event f e m ∷ ps) h lead = absurd h
-Lead-paints s q es fs a xs b (Vsync v ∷ ps) h lead = absurd h
+ActsLead-paints s q es fs a xs b [] h lead = subst (λ l. ActsLead s q es fs a l (record b { painted = b.painted ++ [] })) (sym (append-nil xs)) (subst (λ l. ActsLead s q es fs a xs (record b { painted = l })) (sym (append-nil b.painted)) lead)
+ActsLead-paints s q es fs a xs b (Paint g v ∷ ps) h lead =
+    subst (λ l. ActsLead s q es fs a l (record b { painted = b.painted ++ Paint g v ∷ ps })) (append_assoc xs (Paint g v ∷ []) ps) (subst (λ l. ActsLead s q es fs a ((xs ++ Paint g v ∷ []) ++ ps) (record b { painted = l })) (append_assoc b.painted (Paint g v ∷ []) ps) (ActsLead-paints s q es fs a (xs ++ Paint g v ∷ []) (record b { painted = b.painted ++ Paint g v ∷ [] }) ps h (ActsLead-snoc s q es fs None a xs b (Paint g v) lead refl)))
+ActsLead-paints s q es fs a xs b (Dispatch n now route ∷ ps) h lead = absurd h
+ActsLead-paints s q es fs a xs b (Idle i k ∷ ps) h lead = absurd h
+ActsLead-paints s q es fs a xs b (Event f e m ∷ ps) h lead = absurd h
+ActsLead-paints s q es fs a xs b (Vsync v ∷ ps) h lead = absurd h

@@ -25,19 +25,19 @@ use Rattle.loop_model.specs.Dispatches.{act_dispatch, call_dispatch}
 use Rattle.frame_phases.specs.declared.entry.FrameEntry.{FrameEntry}
 use Rattle.frame_phases.specs.declared.entry.FrameRecord.{FrameRecord}
 use Rattle.frame_phases.specs.Pulses.{are_stamped, comes_after}
-use Rattle.frame_phases.specs.Frames.{lawful, is_pulse, all_allowed, is_allowed, owed, next_phase, last_time, in_due_order, before_later, live as live_callbacks, posted_count}
+use Rattle.frame_phases.specs.Frames.{lawful, is_pulse, all_allowed, is_allowed, owed_callbacks, next_phase, last_time, in_due_order, before_later, live_callbacks, posted_count}
 use Rattle.dash_script.specs.declared.script.Block.{Block}
 use Rattle.dash_script.specs.declared.script.Script.{Script}
 use Rattle.dash_script.specs.Causes.{phase_count}
 use Rattle.run_model.specs.declared.report.Report.{Report}
-use Rattle.run_model.specs.Planned.{history_of, AreFor, plain, call_of, token_in, entries_by, looper_sender, controller, sender_count, lines_of, labels_on}
+use Rattle.run_model.specs.Planned.{history_of, AreFor, bare_call, call_of, token_in, entries_by, looper_sender, controller, sender_count, lines_of, labels_on}
 use Rattle.run_model.specs.Moments.{in_lockstep}
 use Rattle.run_model.specs.Control.{InBlock, is_controlled, is_called_in_time, are_before_quit, befores, are_on_time, Move, moves, move_times, main_moves, is_planned_time, was_due_at, MayMoveTo}
-use Rattle.run_model.specs.Loopers.{Looper, Sent, first_looper, starts_frame, IsSent, MayCome, after_act, dispatched, asked_then, has_frames}
+use Rattle.run_model.specs.Loopers.{LooperState, SentCall, first_looper, starts_frame, IsSent, MayCome, after_act, dispatched, asked_then, has_frames}
 use Rattle.run_model.specs.FrameRecords.{millis_up, is_frame_from, has_stamp, are_run_then, are_whole, asks_in}
-use Rattle.run_model.specs.Run.{IsRun, IsRecordOf, IsAsPlanned, IsControlled, EachLooper, setting_of, caused_on, are_in_order, main_ends_halted}
+use Rattle.run_model.specs.Run.{IsRun, IsRecordOf, IsAsPlanned, IsControlled, EachLooper, record_setting, caused_on, are_in_order, main_ends_halted}
 use Rattle.run_model.specs.Parts.{all_entries}
-use Rattle.run_model.specs.Text.{text, lines}
+use Rattle.run_model.specs.Text.{report_text, report_lines}
 use Rattle.run_model.proofs.Below.{EachBelow, each_below}
 use Rattle.run_model.proofs.Parting.{can_ask_in_turn, asks_are_in_turn}
 use Rattle.run_model.proofs.ByTests.{answers, replies, are_timely, are_numbered, history_by, planned_calls, made_calls, thread_lines, MakesThem, calls_by}
@@ -148,7 +148,7 @@ place_first [] = None
 place_first (f ∷ fs) = f
 
 -- what a looper has come to after these acts, which run the frames at these places
-abbrev pub led : Script → ℕ → List Entry → List FrameEntry → List (Option ℕ) → Looper → List Act → Looper
+abbrev pub led : Script → ℕ → List Entry → List FrameEntry → List (Option ℕ) → LooperState → List Act → LooperState
 led s q es fs places a [] = a
 led s q es fs places a (x ∷ xs) = led s q es fs (behind_first places) (after_act s q es fs (place_first places) a x) xs
 
@@ -159,7 +159,7 @@ is_clear (Some place) [] = false
 is_clear (Some place) (x ∷ xs) = false
 
 -- the act may come next, but for what it paints
-abbrev act_may : Script → ℕ → List Entry → List FrameEntry → Option ℕ → Looper → Act → Bool
+abbrev act_may : Script → ℕ → List Entry → List FrameEntry → Option ℕ → LooperState → Act → Bool
 act_may s q es fs frame a (Dispatch n now route) =
     is_some (post_at es n) && (not (is_some frame) || option_map_or (starts_frame q) (post_at es n) false) && (not (is_some frame) || a.awaits)
     && is_frame_from fs a.place frame && has_stamp fs frame a.stamp
@@ -169,24 +169,24 @@ act_may s q es fs frame a (Idle i k) = is_clear frame a.painted
 act_may s q es fs frame a (Event f e m) = is_clear frame a.painted
 
 -- what is painted once the act has come, where it dispatches
-abbrev act_paints : Script → ℕ → List Entry → List FrameEntry → Option ℕ → Looper → Act → List Act
+abbrev act_paints : Script → ℕ → List Entry → List FrameEntry → Option ℕ → LooperState → Act → List Act
 act_paints s q es fs frame a (Dispatch n now route) = (dispatched s q fs frame n now a (post_at es n)).painted
 act_paints s q es fs frame a (Paint g v) = a.painted
 act_paints s q es fs frame a (Vsync stamp) = a.painted
 act_paints s q es fs frame a (Idle i k) = a.painted
 act_paints s q es fs frame a (Event f e m) = a.painted
 
-abbrev acts_may : Clause → Script → ℕ → List Entry → List FrameEntry → List (Option ℕ) → Looper → List Act → Bool
+abbrev acts_may : Clause → Script → ℕ → List Entry → List FrameEntry → List (Option ℕ) → LooperState → List Act → Bool
 acts_may out s q es fs places a [] = true
 acts_may out s q es fs places a (x ∷ xs) =
     act_may s q es fs (place_first places) (before_act out x a) x && acts_may out s q es fs (behind_first places) (after_act s q es fs (place_first places) a x) xs
 
-abbrev acts_paint : Clause → Script → ℕ → List Entry → List FrameEntry → List (Option ℕ) → Looper → List Act → List (List Act)
+abbrev acts_paint : Clause → Script → ℕ → List Entry → List FrameEntry → List (Option ℕ) → LooperState → List Act → List (List Act)
 acts_paint out s q es fs places a [] = []
 acts_paint out s q es fs places a (x ∷ xs) =
     act_paints s q es fs (place_first places) (before_act out x a) x ∷ acts_paint out s q es fs (behind_first places) (after_act s q es fs (place_first places) a x) xs
 
-abbrev acts_painted : Clause → Script → ℕ → List Entry → List FrameEntry → List (Option ℕ) → Looper → List Act → List (List Act)
+abbrev acts_painted : Clause → Script → ℕ → List Entry → List FrameEntry → List (Option ℕ) → LooperState → List Act → List (List Act)
 acts_painted out s q es fs places a [] = []
 acts_painted out s q es fs places a (x ∷ xs) =
     (before_act out x a).painted ∷ acts_painted out s q es fs (behind_first places) (after_act s q es fs (place_first places) a x) xs
@@ -201,7 +201,7 @@ clear_parts None (x ∷ xs) h = cc
 clear_parts (Some n) [] h = cc
 clear_parts (Some n) (x ∷ xs) h = cc
 
-may_come : (s : Script) (q : ℕ) (es : List Entry) (fs : List FrameEntry) (frame : Option ℕ) (a : Looper) (x : Act)
+may_come : (s : Script) (q : ℕ) (es : List Entry) (fs : List FrameEntry) (frame : Option ℕ) (a : LooperState) (x : Act)
     → act_may s q es fs frame a x ≡ true → act_paints s q es fs frame a x ≡ a.painted → MayCome s q es fs frame a x
 may_come s q es fs frame a (Dispatch n now route) h painted =
     let starts = not (is_some frame) || option_map_or (starts_frame q) (post_at es n) false in
@@ -220,7 +220,7 @@ may_come s q es fs frame a (Vsync stamp) h painted =
 may_come s q es fs frame a (Idle i k) h painted = clear_parts frame a.painted h
 may_come s q es fs frame a (Event f e m) h painted = clear_parts frame a.painted h
 
-leads : (out : Clause) (s : Script) (q : ℕ) (es : List Entry) (fs : List FrameEntry) (places : List (Option ℕ)) (a : Looper) (xs : List Act)
+leads : (out : Clause) (s : Script) (q : ℕ) (es : List Entry) (fs : List FrameEntry) (places : List (Option ℕ)) (a : LooperState) (xs : List Act)
     → acts_may out s q es fs places a xs ≡ true → acts_paint out s q es fs places a xs ≡ acts_painted out s q es fs places a xs → LeadBut out s q es fs a xs (led s q es fs places a xs)
 leads out s q es fs places a [] h painted = refl
 leads out s q es fs places a (x ∷ xs) h painted =
@@ -240,14 +240,14 @@ reply_or None r = r
 reply_or (Some told) r = told
 
 -- the entries that were to come for these calls, as far as it is told
-abbrev entries_for : List ℕ → List Sent → List Entry → List (Option Entry)
+abbrev entries_for : List ℕ → List SentCall → List Entry → List (Option Entry)
 entries_for tokens [] [] = []
 entries_for tokens [] (e ∷ es) = []
 entries_for tokens (x ∷ xs) [] = None ∷ []
 entries_for tokens (x ∷ xs) (e ∷ es) = Some (record e { call = call_of tokens x.ask; reply = reply_or x.reply e.reply }) ∷ entries_for (tokens ++ token_in e.reply) xs es
 
 abbrev plain_entry : Entry → Option Entry
-plain_entry e = Some (record e { call = plain e.call })
+plain_entry e = Some (record e { call = bare_call e.call })
 
 abbrev call_in : Option Entry → Call
 call_in None = Halt 0
@@ -261,7 +261,7 @@ told_so : (o : Option Reply) (r : Reply) → reply_or o r ≡ r → MatchOption 
 told_so None r e = tt
 told_so (Some told) r e = sym e
 
-sent_by_table : (tokens : List ℕ) (xs : List Sent) (es : List Entry) → entries_for tokens xs es ≡ map plain_entry es → AreFor IsSent tokens xs es
+sent_by_table : (tokens : List ℕ) (xs : List SentCall) (es : List Entry) → entries_for tokens xs es ≡ map plain_entry es → AreFor IsSent tokens xs es
 sent_by_table tokens [] [] same = tt
 sent_by_table tokens [] (e ∷ es) same = cc
 sent_by_table tokens (x ∷ xs) [] same = cc
@@ -300,10 +300,10 @@ pub record LooperTest : Type 0 where
   pub threads : List Bool
   pub in_order : Bool
 
-abbrev pub final_of : Clause → Script → ℕ → Row → Looper
+abbrev pub final_of : Clause → Script → ℕ → Row → LooperState
 final_of out s n row = led (with_pulses out s) n (history_of (queue_in s n row)) (with_stamps out row.frames) row.places (first_looper s) row.acts
 
-abbrev caused_by : Clause → Script → ℕ → Row → QueueRecord → List Sent
+abbrev caused_by : Clause → Script → ℕ → Row → QueueRecord → List SentCall
 caused_by out s n row r = caused_on r.looper (final_of out s n row) n row.disposed_at
 
 abbrev entries_there : Script → ℕ → QueueRecord → List Entry
@@ -316,9 +316,9 @@ found_in out s queues n row =
     let es = history_of q in
     let final = final_of out s n row in
     record {
-      replies = answers (setting_of q) (empty_base q.senders) [] es;
-      timely = are_timely (setting_of q) (empty_base q.senders) [] es;
-      numbered = are_numbered (setting_of q) (empty_base q.senders) [] es;
+      replies = answers (record_setting q) (empty_base q.senders) [] es;
+      timely = are_timely (record_setting q) (empty_base q.senders) [] es;
+      numbered = are_numbered (record_setting q) (empty_base q.senders) [] es;
       planned = down_from s.threads (λ thread. planned_calls s (labels_on n (lines_of thread s.blocks)) n [] (thread_lines s n thread) (entries_by thread es));
       controlled = is_controlled q.main q.lockstep (controller s) s.end es;
       lawful = lawful s.period (phase_count s.edition) row.frames;
@@ -553,7 +553,7 @@ run_by s rows e = but.is_run s (report_of s rows) (run_but_by Nothing s rows e)
 -- all with which the equation computes
 unfoldable pub computing : Unit {0}
 unfolding answer clock accepted_count barrier_count quit_place has_disposed has_halted live first_eligible pick made_count is_controlled
-    lawful all_allowed is_allowed owed next_phase last_time in_due_order before_later live_callbacks posted_count
+    lawful all_allowed is_allowed owed_callbacks next_phase last_time in_due_order before_later live_callbacks posted_count
     after_act befores is_called_in_time are_before_quit are_in_order moves
 computing = tt
 
@@ -568,19 +568,19 @@ pub record Worked : Type 0 where
 -- the report is a run of the script, and this is its text
 pub record Holds (w : Worked) : Type 0 where
   pub runs : IsRun in_lockstep w.script (report_of w.script w.rows)
-  pub prints : text (report_of w.script w.rows) ≡ page w.printed
+  pub prints : report_text (report_of w.script w.rows) ≡ page w.printed
 
-pub holds : (w : Worked) → found Nothing w.script w.rows ≡ wanted Nothing w.script w.rows → text (report_of w.script w.rows) ≡ page w.printed → Holds w
+pub holds : (w : Worked) → found Nothing w.script w.rows ≡ wanted Nothing w.script w.rows → report_text (report_of w.script w.rows) ≡ page w.printed → Holds w
 holds w same text_is = record { runs = run_by w.script w.rows same; prints = text_is }
 
 pub all_hold : (ws : List Worked) → map (λ w. found Nothing w.script w.rows) ws ≡ map (λ w. wanted Nothing w.script w.rows) ws
-    → map (λ w. text (report_of w.script w.rows)) ws ≡ map (λ w. page w.printed) ws → AllByRecursion Holds ws
+    → map (λ w. report_text (report_of w.script w.rows)) ws ≡ map (λ w. page w.printed) ws → AllByRecursion Holds ws
 all_hold [] same prints = tt
 all_hold (w ∷ ws) same prints =
     let first = firsts (found Nothing w.script w.rows) (wanted Nothing w.script w.rows) (map (λ v. found Nothing v.script v.rows) ws) (map (λ v. wanted Nothing v.script v.rows) ws) same in
     let rest = others (found Nothing w.script w.rows) (wanted Nothing w.script w.rows) (map (λ v. found Nothing v.script v.rows) ws) (map (λ v. wanted Nothing v.script v.rows) ws) same in
-    let first_text = firsts (text (report_of w.script w.rows)) (page w.printed) (map (λ v. text (report_of v.script v.rows)) ws) (map (λ v. page v.printed) ws) prints in
-    let texts = others (text (report_of w.script w.rows)) (page w.printed) (map (λ v. text (report_of v.script v.rows)) ws) (map (λ v. page v.printed) ws) prints in
+    let first_text = firsts (report_text (report_of w.script w.rows)) (page w.printed) (map (λ v. report_text (report_of v.script v.rows)) ws) (map (λ v. page v.printed) ws) prints in
+    let texts = others (report_text (report_of w.script w.rows)) (page w.printed) (map (λ v. report_text (report_of v.script v.rows)) ws) (map (λ v. page v.printed) ws) prints in
     (holds w first first_text, all_hold ws rest texts)
 
 -- one looper that runs no frame: the blocks of the script and its end, the queue's entries, the acts, and the lines behind the looper's number
@@ -593,5 +593,5 @@ one_looper blocks end es acts printed = record {
 
 -- all with which both equations compute
 unfoldable pub printing : Unit {0}
-unfolding computing text lines fates digits
+unfolding computing report_text report_lines fates digits
 printing = tt

@@ -6,7 +6,7 @@ use Rattle.frame_phases.specs.declared.entry.FrameEntry.{FrameEntry}
 use Rattle.frame_phases.specs.Parting.{dealt_to}
 use Rattle.dash_script.specs.declared.script.Block.{Block}
 use Rattle.run_model.specs.FrameRecords.{line_asks, FrameAsk, asks_in, TimedAsk, lines_ask_then, asked_in_rounds}
-use Rattle.run_model.specs.Planned.{token_in, lines_of, Timed}
+use Rattle.run_model.specs.Planned.{token_in, lines_of, TimedCommand}
 
 -- the first of these asks is made no earlier than this time, and none before the one that it stands behind
 abbrev pub Rise : ℕ → List TimedAsk → Type 0
@@ -38,7 +38,7 @@ abbrev pub asked_so_far : ℕ → ℕ → List Block → List (ℕ × FrameEntry
 asked_so_far threads q past made k = if nat_lt k threads then lines_ask_then q (lines_of k past) else asked_in_rounds (asks_in (dealt_to k made))
 
 -- what lines ask of it, in order
-abbrev pub lines_ask : ℕ → List Timed → List FrameAsk
+abbrev pub lines_ask : ℕ → List TimedCommand → List FrameAsk
 lines_ask looper ls = filter_map (line_asks looper) ls
 
 -- the tokens that these entries were answered

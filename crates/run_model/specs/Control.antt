@@ -72,10 +72,10 @@ abbrev pub is_none_before : ℕ → Option Item → Bool
 is_none_before time None = true
 is_none_before time (Some x) = nat_le time (when_of x)
 
-abbrev pub is_in_time : List Entry → Call → Reply → Bool
-is_in_time past (Advance now) reply = is_none_before now (first_eligible (empty_base 0) past) && not (is_some (quit_place (empty_base 0) past))
-is_in_time past (Quit safe now) reply = is_quit_done reply && not (is_some (pick (empty_base 0) past now))
-is_in_time past _ reply = true
+abbrev pub is_call_in_time : List Entry → Call → Reply → Bool
+is_call_in_time past (Advance now) reply = is_none_before now (first_eligible (empty_base 0) past) && not (is_some (quit_place (empty_base 0) past))
+is_call_in_time past (Quit safe now) reply = is_quit_done reply && not (is_some (pick (empty_base 0) past now))
+is_call_in_time past _ reply = true
 
 -- this is so of each entry and what stood before it, behind these entries
 abbrev pub each_behind : (List Entry → Entry → Bool) → List Entry → List Entry → Bool
@@ -84,7 +84,7 @@ each_behind test past (e ∷ es) = test past e && each_behind test (past ++ e �
 
 -- each Advance and each quit of this sender is in time
 unfoldable pub is_called_in_time : ℕ → List Entry → Bool
-is_called_in_time sender es = each_behind (λ past e. not (e.sender == sender) || is_in_time past e.call e.reply) [] es
+is_called_in_time sender es = each_behind (λ past e. not (e.sender == sender) || is_call_in_time past e.call e.reply) [] es
 
 -- each call of a thread (the senders below this number) comes before this sender's quit
 unfoldable pub are_before_quit : ℕ → ℕ → List Entry → Bool

@@ -9,7 +9,7 @@ use Rattle.frame_phases.specs.declared.entry.FrameEntry.TheVariants.{Posted, Beg
 use Rattle.frame_phases.specs.Parting.{AreParted}
 use Rattle.dash_script.specs.declared.script.Command.{Command}
 use Rattle.dash_script.specs.declared.script.Command.TheVariants.{Frame, Unframe}
-use Rattle.run_model.specs.Planned.{Timed, frame_due}
+use Rattle.run_model.specs.Planned.{TimedCommand, frame_due}
 
 -- a frame begins; and the identity of the callback that an entry posts, or hands out to run: callbacks are numbered in the order of posting
 abbrev pub is_begin : FrameEntry → Bool
@@ -99,7 +99,7 @@ abbrev pub asks_in : List FrameEntry → List FrameAsk
 asks_in fs = filter_map asked_in fs
 
 -- what a line asks of the choreographer of a looper, where it asks anything
-abbrev pub line_asks : ℕ → Timed → Option FrameAsk
+abbrev pub line_asks : ℕ → TimedCommand → Option FrameAsk
 line_asks looper l = of_command l.command
   where
     of_command : Command → Option FrameAsk
@@ -119,7 +119,7 @@ abbrev pub in_round : ℕ → ℕ
 in_round time = 2 * time + 1
 
 -- what lines ask of the choreographer of a looper, each in its block
-abbrev pub lines_ask_then : ℕ → List Timed → List TimedAsk
+abbrev pub lines_ask_then : ℕ → List TimedCommand → List TimedAsk
 lines_ask_then looper ls = filter_map (λ l. option_map (λ a. record { when = in_block l.time; ask = a }) (line_asks looper l)) ls
 
 -- what a looper asks of its own choreographer, each in a round at the time at which a callback is to be due, or a frame to start

@@ -18,17 +18,17 @@ use Rattle.dash_script.specs.declared.script.Rule.{Rule}
 use Rattle.dash_script.specs.declared.script.Script.{Script}
 use Rattle.run_model.specs.FrameRecords.{TimedAsk, asked_in_rounds, lines_ask_then, millis_up, FrameAsk, Posts, FrameAt, frame_ids, is_frame_from, has_stamp}
 use Rattle.run_model.specs.FrameRecords.{place_after, frames_after, Runs, nanos_of}
-use Rattle.run_model.specs.Planned.{Ask, Makes, Unbars, plain, call_of, looper_of, gauge_line, gauge_looper, frame_handler, animation_id, animation_phase}
+use Rattle.run_model.specs.Planned.{Ask, Makes, Unbars, bare_call, call_of, looper_of, gauge_line, gauge_looper, frame_handler, animation_id, animation_phase}
 use Rattle.run_model.specs.Planned.{traversal_id, traversal_phase, sent_by, frame_due, frame_message, lines_of}
 use Rattle.run_model.specs.Control.{Timing, At, NotBefore}
 
-pub record Gauge : Type 0 where
+pub record GaugeState : Type 0 where
   pub value : ℕ
   pub target : ℕ
   pub animating : Bool
 
 -- a call that a looper makes
-pub record Sent : Type 0 where
+pub record SentCall : Type 0 where
   pub queue : ℕ
   pub ask : Ask
   -- its reply, where that is told
@@ -36,9 +36,9 @@ pub record Sent : Type 0 where
   pub timing : Timing
 
 -- what a looper has come to
-pub record Looper : Type 0 where
+pub record LooperState : Type 0 where
   -- all gauges of the script; only its own ever change
-  pub gauges : List Gauge
+  pub gauges : List GaugeState
   -- the number among its own barriers of the one that the traversal under way has posted
   pub barrier : Option ℕ
   -- how many barriers it has posted
@@ -46,7 +46,7 @@ pub record Looper : Type 0 where
   -- how often each rule has fired
   pub fired : List ℕ
   -- the calls and the frame callbacks that it was to make so far, in order
-  pub sent : List Sent
+  pub sent : List SentCall
   pub posted : List FrameAsk
   -- what it has painted since its last act of another kind
   pub painted : List Act
@@ -60,7 +60,7 @@ pub record Looper : Type 0 where
   pub frames : List FrameAt
 
 -- before the first act
-abbrev pub first_looper : Script → Looper
+abbrev pub first_looper : Script → LooperState
 first_looper s = record {
   gauges = replicate (length s.gauges) (record { value = 0; target = 0; animating = false });
   barrier = None;
@@ -76,53 +76,53 @@ first_looper s = record {
 }
 
 -- one call more, at a moment; one frame callback more, due at once; and another state of a gauge
-abbrev pub and_sends : ℕ → ℕ → Ask → Looper → Looper
+abbrev pub and_sends : ℕ → ℕ → Ask → LooperState → LooperState
 and_sends queue now ask a = record a { sent = a.sent ++ record { queue = queue; ask = ask; reply = None; timing = At now } ∷ [] }
 
-abbrev pub and_posts_frame : ℕ → ℕ → ℕ → Looper → Looper
+abbrev pub and_posts_frame : ℕ → ℕ → ℕ → LooperState → LooperState
 and_posts_frame now phase id a = record a { posted = a.posted ++ Posts phase (frame_due now 0) id None ∷ [] }
 
-abbrev pub with_gauge : ℕ → Gauge → Looper → Looper
+abbrev pub with_gauge : ℕ → GaugeState → LooperState → LooperState
 with_gauge g x a = record a { gauges = slice_set a.gauges g x }
 
 -- a traversal is requested: a barrier and the traversal's callback, unless one is under way
-abbrev pub traversal_requested : Script → ℕ → ℕ → Looper → Looper
+abbrev pub traversal_requested : Script → ℕ → ℕ → LooperState → LooperState
 traversal_requested s q now a =
     if is_some a.barrier then a
     else and_posts_frame now (traversal_phase s) traversal_id
     (and_sends q now (Makes (Barrier 0)) (record a { barrier = Some a.barriers; barriers = a.barriers + 1 }))
 
 -- a message with an object sets the target of that gauge, which begins to animate where it stands still elsewhere; nothing where that is no gauge of the looper
-abbrev pub target_set : Script → ℕ → ℕ → ℕ → ℕ → Gauge → Looper → Looper
+abbrev pub target_set : Script → ℕ → ℕ → ℕ → ℕ → GaugeState → LooperState → LooperState
 target_set s q now g target x a =
     if x.animating || x.value == target then with_gauge g (record x { target = target }) a
     else traversal_requested s q now
     (and_posts_frame now animation_phase (animation_id g) (with_gauge g (record { value = x.value; target = target; animating = true }) a))
 
-abbrev pub object_set : Script → ℕ → ℕ → ℕ → ℕ → Looper → Looper
+abbrev pub object_set : Script → ℕ → ℕ → ℕ → ℕ → LooperState → LooperState
 object_set s q now g target a =
     if gauge_looper s g == q then option_map_or (λ x. target_set s q now g target x a) (slice_get a.gauges g) a else a
 
 -- the callback of a gauge that is animating moves it by a step towards its target, but not past it, requests a traversal, and posts itself again or stops there
-abbrev pub moved : ℕ → ℕ → ℕ → ℕ
-moved step target value = if nat_le value target then min (value + step) target else value - min step (value - target)
+abbrev pub stepped_towards : ℕ → ℕ → ℕ → ℕ
+stepped_towards step target value = if nat_le value target then min (value + step) target else value - min step (value - target)
 
-abbrev pub gauge_moved : Script → ℕ → ℕ → ℕ → Gauge → Looper → Looper
+abbrev pub gauge_moved : Script → ℕ → ℕ → ℕ → GaugeState → LooperState → LooperState
 gauge_moved s q now g x a =
-    let value = moved (gauge_line s g).step x.target x.value in
+    let value = stepped_towards (gauge_line s g).step x.target x.value in
     if value == x.target then traversal_requested s q now (with_gauge g (record { value = value; target = x.target; animating = false }) a)
     else and_posts_frame now animation_phase (animation_id g) (traversal_requested s q now (with_gauge g (record x { value = value }) a))
 
 -- the traversal's callback removes the barrier and paints the looper's gauges with their values, by rising number, where one is under way
-abbrev pub paints : Script → ℕ → List Gauge → List Act
+abbrev pub paints : Script → ℕ → List GaugeState → List Act
 paints s q gauges = filter_map (λ (g, x). if gauge_looper s g == q then Some (Paint g x.value) else None) (enumerate_from 0 gauges)
 
-abbrev pub traversal_ran : Script → ℕ → ℕ → Looper → Looper
+abbrev pub traversal_ran : Script → ℕ → ℕ → LooperState → LooperState
 traversal_ran s q now a =
     option_map_or (λ k. and_sends q now (Unbars k) (record a { barrier = None; painted = a.painted ++ paints s q a.gauges })) a.barrier a
 
 -- a frame callback runs, by its identity
-abbrev pub callback_ran : Script → ℕ → ℕ → Looper → ℕ → Looper
+abbrev pub callback_ran : Script → ℕ → ℕ → LooperState → ℕ → LooperState
 callback_ran s q now a id =
     if id == traversal_id then traversal_ran s q now a
     else if nat_le 1000000 id then option_map_or (λ x. if x.animating then gauge_moved s q now (id - 1000000) x a else a) (slice_get a.gauges (id - 1000000)) a
@@ -132,7 +132,7 @@ callback_ran s q now a id =
 abbrev pub fires : PostData → Rule → ℕ → Bool
 fires m r count = m.handler == r.handler && m.what == r.what && nat_lt count r.times
 
-abbrev pub reaction : Script → ℕ → Rule → Sent
+abbrev pub reaction : Script → ℕ → Rule → SentCall
 reaction s now r = record {
   queue = looper_of s r.to_handler;
   ask = Makes (Post (sent_by s r.to_handler r.to_what (moment_after now r.delay)));
@@ -140,7 +140,7 @@ reaction s now r = record {
   timing = At now;
 }
 
-abbrev pub reacted : Script → ℕ → PostData → Looper → Looper
+abbrev pub reacted : Script → ℕ → PostData → LooperState → LooperState
 reacted s now m a = record a {
   fired = map (λ (r, n). if fires m r n then n + 1 else n) (zip s.rules a.fired);
   sent = a.sent ++ filter_map (λ (r, n). if fires m r n then Some (reaction s now r) else None) (zip s.rules a.fired);
@@ -150,20 +150,20 @@ reacted s now m a = record a {
 abbrev pub starts_frame : ℕ → PostData → Bool
 starts_frame q m = not (is_some m.callback) && m.handler == frame_handler q && m.what == 0
 
-abbrev pub delivered : Script → ℕ → ℕ → List ℕ → PostData → Looper → Looper
-delivered s q now ids m a =
+abbrev pub after_dispatch : Script → ℕ → ℕ → List ℕ → PostData → LooperState → LooperState
+after_dispatch s q now ids m a =
     if is_some m.callback then a
     else if m.handler == frame_handler q then (if m.what == 0 then fold (callback_ran s q now) a ids else a)
     else option_map_or (λ g. object_set s q now g m.arg a) m.obj (reacted s now m a)
 
 -- the looper takes a message
-abbrev pub and_takes : ℕ → ℕ → ℕ → Looper → Looper
+abbrev pub and_takes : ℕ → ℕ → ℕ → LooperState → LooperState
 and_takes q n now a = record a { sent = a.sent ++ record { queue = q; ask = Makes (Next now); reply = Some (Dispatched n); timing = At now } ∷ [] }
 
 -- a dispatch, by its message, at this time: it runs the frame that begins at this place, or none, and what was painted before is told by then
-abbrev pub dispatched : Script → ℕ → List FrameEntry → Option ℕ → ℕ → ℕ → Looper → Option PostData → Looper
+abbrev pub dispatched : Script → ℕ → List FrameEntry → Option ℕ → ℕ → ℕ → LooperState → Option PostData → LooperState
 dispatched s q fs frame n now a None = a
-dispatched s q fs frame n now a (Some m) = delivered s q now (frame_ids fs frame) m (and_takes q n now (record a {
+dispatched s q fs frame n now a (Some m) = after_dispatch s q now (frame_ids fs frame) m (and_takes q n now (record a {
   painted = [];
   awaits = a.awaits && not (starts_frame q m);
   place = place_after a.place frame;
@@ -171,7 +171,7 @@ dispatched s q fs frame n now a (Some m) = delivered s q now (frame_ids fs frame
 }))
 
 -- what looper q has come to after an act, by its queue's history and its frame record; a dispatch runs the frame that begins at this place, or none
-unfoldable pub after_act : Script → ℕ → List Entry → List FrameEntry → Option ℕ → Looper → Act → Looper
+unfoldable pub after_act : Script → ℕ → List Entry → List FrameEntry → Option ℕ → LooperState → Act → LooperState
 after_act s q es fs frame a (Dispatch n now route) = record (dispatched s q fs frame n now a (post_at es n)) { painted = [] }
 after_act s q es fs frame a (Vsync stamp) = record a {
   sent = a.sent ++ record { queue = q; ask = Makes (Post (frame_message q 0 0 (stamp / 1000000))); reply = None; timing = NotBefore (millis_up stamp) } ∷ [];
@@ -184,7 +184,7 @@ after_act s q es fs frame a (Event f e m) = a
 
 -- a dispatch is of an accepted post, runs a frame only where its message starts one that a pulse awaits, and behind the frames before, that frame has the
 -- stamp of the latest pulse, and what was painted just before is what it paints
-pub record MayDispatch (s : Script) (q : ℕ) (es : List Entry) (fs : List FrameEntry) (frame : Option ℕ) (a : Looper) (n now : ℕ) : Type 0 where
+pub record MayDispatch (s : Script) (q : ℕ) (es : List Entry) (fs : List FrameEntry) (frame : Option ℕ) (a : LooperState) (n now : ℕ) : Type 0 where
   pub accepted : is_some (post_at es n) ≡ true
   pub starts : (not (is_some frame) || option_map_or (starts_frame q) (post_at es n) false) ≡ true
   pub awaited : (not (is_some frame) || a.awaits) ≡ true
@@ -193,43 +193,43 @@ pub record MayDispatch (s : Script) (q : ℕ) (es : List Entry) (fs : List Frame
   pub painted : (dispatched s q fs frame n now a (post_at es n)).painted ≡ a.painted
 
 -- a pulse comes at a positive multiple of the period, or at the greatest u64, after the pulse before it, and only once that one's frame message is taken
-pub record MayPulse (s : Script) (a : Looper) (stamp : ℕ) : Type 0 where
+pub record MayComeAsPulse (s : Script) (a : LooperState) (stamp : ℕ) : Type 0 where
   pub painted : a.painted ≡ []
   pub awaited : a.awaits ≡ false
   pub pulse : is_pulse s.period stamp ≡ true
   pub later : comes_after a.stamp stamp ≡ true
 
 -- the act may come next: paints stand nowhere but just before the dispatch that makes them
-abbrev pub MayCome : Script → ℕ → List Entry → List FrameEntry → Option ℕ → Looper → Act → Type 0
+abbrev pub MayCome : Script → ℕ → List Entry → List FrameEntry → Option ℕ → LooperState → Act → Type 0
 MayCome s q es fs frame a (Dispatch n now route) = MayDispatch s q es fs frame a n now
 MayCome s q es fs frame a (Paint g v) = frame ≡ None
-MayCome s q es fs frame a (Vsync stamp) = (frame ≡ None) × MayPulse s a stamp
+MayCome s q es fs frame a (Vsync stamp) = (frame ≡ None) × MayComeAsPulse s a stamp
 MayCome s q es fs frame a _ = (frame ≡ None) × (a.painted ≡ [])
 
 -- the acts lead a looper from one state to another
-abbrev pub Lead : Script → ℕ → List Entry → List FrameEntry → Looper → List Act → Looper → Type 0
-Lead s q es fs a [] b = a ≡ b
-Lead s q es fs a (x ∷ xs) b = (frame : Option ℕ) × (MayCome s q es fs frame a x × Lead s q es fs (after_act s q es fs frame a x) xs b)
+abbrev pub ActsLead : Script → ℕ → List Entry → List FrameEntry → LooperState → List Act → LooperState → Type 0
+ActsLead s q es fs a [] b = a ≡ b
+ActsLead s q es fs a (x ∷ xs) b = (frame : Option ℕ) × (MayCome s q es fs frame a x × ActsLead s q es fs (after_act s q es fs frame a x) xs b)
 
 -- the stamp of a pulse; there are as many frames as pulses, but for one whose frame message isn't taken yet
 abbrev pub pulse_stamp : Act → Option ℕ
 pulse_stamp (Vsync stamp) = Some stamp
 pulse_stamp _ = None
 
-abbrev pub has_frames : List Act → Looper → Bool
+abbrev pub has_frames : List Act → LooperState → Bool
 has_frames acts a = length (filter_map pulse_stamp acts) == length a.frames + (if a.awaits then 1 else 0)
 
 -- the last call of a looper that is not main: the look for a message that disposes of its queue
-abbrev pub closing : ℕ → ℕ → List Sent
+abbrev pub closing : ℕ → ℕ → List SentCall
 closing q now = if q == 0 then [] else record { queue = q; ask = Makes (Next now); reply = Some Disposed; timing = NotBefore 0 } ∷ []
 
 -- the entry makes the call, with the reply where that is told
-pub record IsSent (tokens : List ℕ) (x : Sent) (e : Entry) : Type 0 where
-  pub call : plain e.call ≡ call_of tokens x.ask
+pub record IsSent (tokens : List ℕ) (x : SentCall) (e : Entry) : Type 0 where
+  pub call : bare_call e.call ≡ call_of tokens x.ask
   pub reply : MatchOption x.reply (Unit {0}) (λ r. e.reply ≡ r)
 
 -- what each asks of a choreographer, and when: a thread by its lines, and its looper by the frames of its dispatches, at once, and by what its acts post
-abbrev pub asked_then : Script → ℕ → Looper → List (List TimedAsk)
+abbrev pub asked_then : Script → ℕ → LooperState → List (List TimedAsk)
 asked_then s q final =
     map (λ thread. lines_ask_then q (lines_of thread s.blocks)) (range_with_len 0 s.threads)
     ++ asked_in_rounds (map (λ x. Runs (nanos_of x.now)) final.frames) ∷ asked_in_rounds final.posted ∷ []

@@ -25,14 +25,14 @@ abbrev pub IfFree : Mode → Type 0 → Type 0
 IfFree m P = MatchBool m.lockstep (Unit {0}) P
 
 -- a moment is what a number that the clock shows is past the start
-pub record IsMoment (m : Mode) (now : ℕ) : Type 0 where
+pub record IsMomentOf (m : Mode) (now : ℕ) : Type 0 where
   pub reading : ℕ
   pub shown : m.shows reading ≡ true
   pub since : now ≡ reading - m.start
 
 -- the uptime of a command is the time of its block, and in free mode a moment no earlier
 abbrev pub IsUptime : Mode → ℕ → ℕ → Type 0
-IsUptime m time uptime = MatchBool m.lockstep (uptime ≡ time) ((time ≤ uptime) × IsMoment m uptime)
+IsUptime m time uptime = MatchBool m.lockstep (uptime ≡ time) ((time ≤ uptime) × IsMomentOf m uptime)
 
 -- the moment of the call, where it has one of its own, is a moment of the clock or the time of the queue
 abbrev pub has_moment : Call → Bool
@@ -42,7 +42,7 @@ has_moment (Remove f) = false
 has_moment _ = true
 
 abbrev pub IsOfClock : Mode → ℕ → Call → Type 0
-IsOfClock m time call = MatchBool (has_moment call) (IsMoment m (moment_of call) ⊎ (moment_of call ≡ time)) (Unit {0})
+IsOfClock m time call = MatchBool (has_moment call) (IsMomentOf m (moment_of call) ⊎ (moment_of call ≡ time)) (Unit {0})
 
 -- each entry that passes the test has such a moment
 abbrev pub AreOfClockAfter : Mode → (Entry → Bool) → List Entry → List Entry → Type 0

@@ -11,20 +11,20 @@ use Rattle.loop_model.specs.Answers.{has_disposed}
 use Rattle.loop_model.specs.declared.record.QueueRecord.{QueueRecord}
 use Rattle.loop_model.specs.declared.post.Post.{Post as PostData}
 use Rattle.loop_model.specs.declared.call.Call.TheVariants as call
-use Rattle.line_words.specs.Words.{Words}
+use Rattle.line_words.specs.Words.{LineWords}
 use Rattle.frame_phases.specs.declared.entry.FrameEntry.{FrameEntry}
 use Rattle.dash_script.specs.declared.script.Script.{Script}
 use Rattle.dash_script.specs.declared.script.Block.{Block}
-use Rattle.run_model.specs.Control.{is_in_time, is_quit, is_advance, is_fresh, befores_from, befores, Before, InBlock, are_on_time, are_before_quit}
+use Rattle.run_model.specs.Control.{is_call_in_time, is_quit, is_advance, is_fresh, befores_from, befores, Before, InBlock, are_on_time, are_before_quit}
 use Rattle.run_model.specs.FrameRecords.{FrameAt, frame_moments, nanos_of, place_after, frames_after, FrameAsk, Runs}
-use Rattle.run_model.specs.Loopers.{Looper, Gauge, Sent, starts_frame, gauge_moved}
-use Rattle.run_model.specs.Planned.{Timed, IsPlanned, lines_on, lines_of, labels_on, history_of, AreFor, controller, entries_by, times_on}
-use Rattle.run_model.specs.Text.{subject}
+use Rattle.run_model.specs.Loopers.{LooperState, GaugeState, SentCall, starts_frame, gauge_moved}
+use Rattle.run_model.specs.Planned.{TimedCommand, IsPlanned, lines_on, lines_of, labels_on, history_of, AreFor, controller, entries_by, times_on}
+use Rattle.run_model.specs.Text.{post_subject}
 use Rattle.run_model.specs.Moments.{Mode, IfFree, AreOfClockAfter}
 use Rattle.run_model.specs.Run.{has_called_before}
 
 abbrev pub comes_in_time : ℕ → List Entry → Entry → Bool
-comes_in_time sender past e = not (e.sender == sender) || is_in_time past e.call e.reply
+comes_in_time sender past e = not (e.sender == sender) || is_call_in_time past e.call e.reply
 
 abbrev pub has_quit_by : ℕ → List Entry → Bool
 has_quit_by sender es = list_any (λ e. e.sender == sender && is_quit e.call) es
@@ -59,22 +59,22 @@ is_run_then fs x = list_all (λ n. n == nanos_of x.now) (frame_moments fs x.plac
 abbrev pub is_whole : ℕ → List FrameEntry → FrameAt → Bool
 is_whole phases fs x = length (frame_moments fs x.place) == phases + 1
 
-abbrev pub running : Option ℕ → ℕ → Looper → Looper
+abbrev pub running : Option ℕ → ℕ → LooperState → LooperState
 running frame now a = record a { painted = []; place = place_after a.place frame; frames = frames_after a.frames frame now }
 
-abbrev pub and_starts : ℕ → PostData → Looper → Looper
+abbrev pub and_starts : ℕ → PostData → LooperState → LooperState
 and_starts q m a = record a { awaits = a.awaits && not (starts_frame q m) }
 
-abbrev pub animation_ran : Script → ℕ → ℕ → ℕ → Gauge → Looper → Looper
+abbrev pub animation_ran : Script → ℕ → ℕ → ℕ → GaugeState → LooperState → LooperState
 animation_ran s q now g x a = if x.animating then gauge_moved s q now g x a else a
 
-abbrev pub sent_on : ℕ → List Sent → List Sent
+abbrev pub sent_on : ℕ → List SentCall → List SentCall
 sent_on q xs = filter (λ x. x.queue == q) xs
 
-abbrev pub lines_in : ℕ → Block → List Timed
+abbrev pub lines_in : ℕ → Block → List TimedCommand
 lines_in thread b = map (λ l. record { time = b.time; command = l.command }) (filter (λ l. l.thread == thread) b.lines)
 
-abbrev pub MakeCalls : Mode → Script → List ℕ → ℕ → List Timed → List Entry → Type 0
+abbrev pub MakeCalls : Mode → Script → List ℕ → ℕ → List TimedCommand → List Entry → Type 0
 MakeCalls m s labels q ls es = AreFor (IsPlanned m s labels q) [] (lines_on s labels q ls) es
 
 abbrev pub all_entries : Entry → Bool
@@ -88,8 +88,8 @@ IsThreadOnTime s r thread =
     are_on_time (map (λ l. InBlock l.time) (lines_on s (labels_on r.looper (lines_of thread s.blocks)) r.looper (lines_of thread s.blocks)))
     (befores thread (history_of r)) ≡ true
 
-abbrev pub dispatch_words : ℕ → ℕ → PostData → Words
-dispatch_words now n p = decimal now ∷ codes "dispatch" ∷ decimal n ∷ subject p
+abbrev pub dispatch_words : ℕ → ℕ → PostData → LineWords
+dispatch_words now n p = decimal now ∷ codes "dispatch" ∷ decimal n ∷ post_subject p
 
 abbrev pub AreOfClock : Mode → (Entry → Bool) → List Entry → Type 0
 AreOfClock m test es = IfFree m (AreOfClockAfter m test [] es)

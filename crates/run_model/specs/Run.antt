@@ -21,11 +21,11 @@ use Rattle.run_model.specs.Planned.{history_of, AreFor, entries_by, looper_sende
 use Rattle.run_model.specs.Moments.{Mode, IfLockstep, in_lockstep, IfFree, AreOfClockAfter}
 use Rattle.run_model.specs.Control.{is_controlled, ends_halted, is_called_in_time, are_before_quit, befores, InBlock, are_on_time, each_behind, moves}
 use Rattle.run_model.specs.Control.{AreMovedTogether, AreBlocksFirst, AreBlocksReached}
-use Rattle.run_model.specs.Loopers.{Looper, Sent, first_looper, Lead, closing, IsSent, asked_then, has_frames}
+use Rattle.run_model.specs.Loopers.{LooperState, SentCall, first_looper, ActsLead, closing, IsSent, asked_then, has_frames}
 use Rattle.run_model.specs.FrameRecords.{are_run_then, are_whole, asks_in, AreAskedInTurn}
 
-abbrev pub setting_of : QueueRecord → Setting
-setting_of r = record { main = r.main; lockstep = r.lockstep; senders = r.senders }
+abbrev pub record_setting : QueueRecord → Setting
+record_setting r = record { main = r.main; lockstep = r.lockstep; senders = r.senders }
 
 -- the report is of the script, and each of its three lists has one member per looper in order, with that number
 pub record IsReportOf (s : Script) (r : Report) : Type 0 where
@@ -42,8 +42,8 @@ pub record IsRecordOf (m : Mode) (test : Entry → Bool) (s : Script) (r : Queue
   pub lockstep : r.lockstep ≡ m.lockstep
   pub senders : r.senders ≡ sender_count s
   pub chain : IsChainFrom (empty_base r.senders) r.segments
-  pub legal : IsLegal (setting_of r) (empty_base r.senders) (history_of r)
-  pub numbered : AreNumbered (setting_of r) (empty_base r.senders) (history_of r)
+  pub legal : IsLegal (record_setting r) (empty_base r.senders) (history_of r)
+  pub numbered : AreNumbered (record_setting r) (empty_base r.senders) (history_of r)
   pub clocked : IfFree m (AreOfClockAfter m test [] (history_of r))
 
 -- part 1 of a run: the queues' records, and the reading at the start, which is one that the clock shows, and in lockstep 0
@@ -70,15 +70,15 @@ pub record IsFrameRun (s : Script) (f : FrameRecord) : Type 0 where
   pub stamps : are_stamped f.interval f.entries ≡ true
 
 -- what a looper's acts cause on a queue, with the last look where it is not main
-abbrev pub caused_on : ℕ → Looper → ℕ → ℕ → List Sent
+abbrev pub caused_on : ℕ → LooperState → ℕ → ℕ → List SentCall
 caused_on queue final looper disposed_at = filter (λ x. x.queue == queue) (final.sent ++ closing looper disposed_at)
 
 -- a looper's calls on each queue are those that its acts cause, the posts, removals and frames of its frame record are parted among those who ask for
 -- them, in turn, the frames are whole, and its Dispatch acts are, one for one and in order, its entries answered Dispatched. All that was painted is told. In
 -- lockstep each call is on time, each frame starts and takes its phases at the time of its dispatch, and each pulse whose message is taken has its frame
 pub record IsLooperRun (m : Mode) (s : Script) (queues : List QueueRecord) (q : QueueRecord) (j : Journal) (f : FrameRecord) : Type 0 where
-  pub final : Looper
-  pub acts : Lead s q.looper (history_of q) f.entries (first_looper s) j.acts final
+  pub final : LooperState
+  pub acts : ActsLead s q.looper (history_of q) f.entries (first_looper s) j.acts final
   pub settled : final.painted ≡ []
   pub dispatches : filter_map act_dispatch j.acts ≡ filter_map (λ e. call_dispatch e.call e.reply) (entries_by (looper_sender s q.looper) (history_of q))
   pub disposed_at : ℕ

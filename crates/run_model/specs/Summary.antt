@@ -11,7 +11,7 @@ use Rattle.frame_phases.specs.declared.entry.FrameRecord.{FrameRecord}
 use Rattle.run_model.specs.declared.report.Report.{Report}
 use Rattle.run_model.specs.FrameRecords.{is_begin}
 use Rattle.run_model.specs.Planned.{history_of}
-use Rattle.run_model.specs.Text.{Words, line_text}
+use Rattle.run_model.specs.Text.{LineWords, line_text}
 
 abbrev pub is_paint : Act → Bool
 is_paint (Paint gauge value) = true
@@ -30,7 +30,7 @@ abbrev pub paints_in : List Journal → ℕ
 paints_in js = sum_by (λ (j : Journal). count_by is_paint j.acts) js
 
 -- the five lines of a summary of the run of script number n
-unfoldable pub summary_lines : ℕ → Report → List Words
+unfoldable pub summary_lines : ℕ → Report → List LineWords
 summary_lines n r =
     (codes "summary" ∷ decimal n ∷ []) ∷ (codes "accepted" ∷ decimal (accepted_in r.queues) ∷ []) ∷ (codes "dispatched" ∷ decimal (dispatched_in r.queues) ∷ [])
     ∷ (codes "frames" ∷ decimal (frames_in r.frames) ∷ []) ∷ (codes "paints" ∷ decimal (paints_in r.journals) ∷ []) ∷ []

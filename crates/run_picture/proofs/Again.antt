@@ -4,7 +4,7 @@ use Rattle.std.specs.Prelude.{codes, ◌⊎◌}
 use Rattle.std.specs.Fmt.{decimal}
 use Rattle.std.proofs.lemmas.Bool.{lt-ltb, eq-eqb}
 use Rattle.std.proofs.lemmas.List.{append-nil}
-use Rattle.line_words.specs.Words.{number_of, IsShort, IsLong}
+use Rattle.line_words.specs.Words.{spelled_number, IsShort, IsLong}
 use Rattle.line_words.specs.Taking.{Rest}
 use Rattle.line_words.proofs.Spelling.{number_again}
 use Rattle.line_words.proofs.Wording.{AreWords, words_append, long_short, decimal_word}
@@ -21,10 +21,10 @@ use Rattle.run_picture.specs.declared.line.Line.{Line}
 use Rattle.run_picture.specs.declared.line.Line.TheVariants.{Title, Looper, Past, Fates, Act, Frame, Run, End}
 use Rattle.run_picture.specs.Reading as reading
 use Rattle.run_picture.specs.Lines as lines
-use Rattle.run_picture.specs.Text.{FitsSubject, FitsPast, FitsFates, FitsAct, Fits, line_words, past_words, act_words, subject_words, fates_words}
+use Rattle.run_picture.specs.Text.{FitsSubject, FitsPast, FitsFates, FitsAct, FitsReportLine, picture_line_words, past_words, act_words, subject_words, fates_words}
 
 subject_again : (s : Subject) (rest : Rest) → FitsSubject s → reading.subject (subject_words s ++ rest) ≡ Some (s, rest)
-unfolding reading.subject number_of
+unfolding reading.subject spelled_number
 subject_again (What w) rest fit =
     ap (λ o. reading.subject_by (decimal w) o rest) (number_again w (long_short w fit)) ∙ (rw (lt-ltb w (2 ^ 32) fit) refl)
 subject_again (Callback c) rest fit = then_again _ _ _ _ (Callback c, rest) (long_again c rest fit) refl
@@ -40,8 +40,8 @@ dispatch_again now number handler s fit =
     then_again _ _ _ _ y (counted_again (codes "dispatch") number _ refl fit.1) (then_again _ _ _ _ y (short_again handler _ fit.2) (then_again _ _ _ _ y last refl))
 
 refused_again : (handler : ℕ) (s : Subject) (place : ℕ) → FitsPast (past_of.Refused handler s place)
-    → lines.refused (decimal handler ∷ subject_words s ++ codes "quit" ∷ decimal place ∷ []) ≡ Some (Past (past_of.Refused handler s place))
-unfolding lines.refused
+    → lines.refused_line (decimal handler ∷ subject_words s ++ codes "quit" ∷ decimal place ∷ []) ≡ Some (Past (past_of.Refused handler s place))
+unfolding lines.refused_line
 refused_again handler s place fit =
     let y = Past (past_of.Refused handler s place) in
     then_again _ _ _ _ y (short_again handler _ fit.0) (then_again _ _ _ _ y (subject_again s _ fit.1) (then_again _ _ _ _ y (counted_again (codes "quit") place _ refl fit.2) refl))
@@ -54,7 +54,7 @@ two_again : (a b : ℕ) (make : ℕ → ℕ → Line) → IsShort a → IsShort 
 two_again a b make f g = then_again _ _ _ _ (make a b) (short_again a _ f) (then_again _ _ _ _ (make a b) (short_again b [] g) refl)
 
 past_again : (p : PastData) → FitsPast p → lines.line_of (past_words p) ≡ Some (Past p)
-unfolding lines.line_of number_of
+unfolding lines.line_of spelled_number
 past_again (past_of.Dispatch now number handler s) fit =
     let rest = codes "dispatch" ∷ decimal number ∷ decimal handler ∷ subject_words s in
     ap (λ o. lines.line_by (decimal now) o rest) (number_again now fit.0) ∙ dispatch_again now number handler s fit
@@ -64,7 +64,7 @@ past_again past_of.NotAllowed fit = refl
 past_again (past_of.AlreadyQuit place) fit = one_again place (λ n. Past (past_of.AlreadyQuit n)) fit
 
 fates_again : (f : FatesData) → FitsFates f → lines.line_of (fates_words f) ≡ Some (Fates f)
-unfolding lines.line_of lines.fates lines.fates_of number_of
+unfolding lines.line_of lines.fates_said lines.fates_of spelled_number
 fates_again f fit =
     let y : FatesData × Rest = (f, []) in
     then_again _ _ _ _ (Fates f) (then_again _ _ _ _ y (counted_again (codes "accepted") f.accepted _ refl fit.0) (then_again _ _ _ _ y (counted_again (codes "dispatched") f.dispatched _ refl fit.1)
@@ -72,23 +72,23 @@ fates_again f fit =
     (then_again _ _ _ _ y (counted_again (codes "queued") f.queued _ refl fit.5) refl)))))) (rw (eq-eqb f.accepted (f.dispatched + f.removed + f.dropped + f.stranded + f.queued) fit.6) refl)
 
 act_again : (a : ActData) → FitsAct a → lines.line_of (act_words a) ≡ Some (Act a)
-unfolding lines.line_of number_of
+unfolding lines.line_of spelled_number
 act_again (act_of.Idle id) fit = then_again _ _ _ _ (Act (act_of.Idle id)) (short_again id [] fit) refl
 act_again (act_of.Event fd events) fit = two_again fd events (λ a b. Act (act_of.Event a b)) fit.0 fit.1
 act_again (act_of.Paint gauge value) fit = two_again gauge value (λ a b. Act (act_of.Paint a b)) fit.0 fit.1
 
-title_again : (edition : ℕ) → Fits (Title edition) → lines.title (decimal edition ∷ []) ≡ Some (Title edition)
+title_again : (edition : ℕ) → FitsReportLine (Title edition) → lines.title (decimal edition ∷ []) ≡ Some (Title edition)
 unfolding lines.title
 title_again edition (inl one) =
     then_again _ _ _ _ (Title edition) (short_again edition [] (omega (arith, one))) (rw (eq-eqb edition 1 one) refl)
 title_again edition (inr two) = subst (λ n. lines.title (decimal n ∷ []) ≡ Some (Title n)) (sym two) (then_again _ _ _ _ (Title 2) (short_again 2 [] (omega arith)) refl)
 
-run_again : (r : RunData) → Fits (Run r) → lines.line_of (line_words (Run r)) ≡ Some (Run r)
-unfolding lines.line_of number_of
+run_again : (r : RunData) → FitsReportLine (Run r) → lines.line_of (picture_line_words (Run r)) ≡ Some (Run r)
+unfolding lines.line_of spelled_number
 run_again r fit = then_again _ _ _ _ (Run r) (short_again r.phase _ fit.0) (then_again _ _ _ _ (Run r) (long_again r.id [] fit.1) refl)
 
-pub line_again : (l : Line) → Fits l → lines.line_of (line_words l) ≡ Some l
-unfolding lines.line_of number_of
+pub line_again : (l : Line) → FitsReportLine l → lines.line_of (picture_line_words l) ≡ Some l
+unfolding lines.line_of spelled_number
 line_again (Title edition) fit = title_again edition fit
 line_again (Looper n) fit = one_again n Looper fit
 line_again (Past p) fit = past_again p fit
@@ -122,7 +122,7 @@ edition_small : (n : ℕ) → (n ≡ 1) ⊎ (n ≡ 2) → n < 2 ^ 64
 edition_small n (inl e) = omega (arith, e)
 edition_small n (inr e) = omega (arith, e)
 
-pub line_are : (l : Line) → Fits l → AreWords (line_words l)
+pub line_are : (l : Line) → FitsReportLine l → AreWords (picture_line_words l)
 line_are (Title edition) fit = ((refl, refl), (decimal_word edition (edition_small edition fit), tt))
 line_are (Looper n) fit = ((refl, refl), (decimal_word n fit, tt))
 line_are (Past p) fit = past_are p fit

@@ -21,11 +21,11 @@ use Rattle.run_picture.specs.declared.group.Row.TheVariants.{Handler, Frames, Ru
 use Rattle.run_picture.specs.declared.group.Place.{Place}
 use Rattle.run_picture.specs.declared.group.Scale.{Scale}
 use Rattle.run_picture.specs.declared.group.Group.{Group}
-use Rattle.run_picture.specs.Groups.{AreCut, HasMarks, IsOfPlace, KeepOrder, Rise, StandsAt, begun, key, marks_of, number, order, place, place_of, rank, with_mark}
+use Rattle.run_picture.specs.Groups.{AreCut, HasMarks, IsOfPlace, KeepOrder, GroupsRise, StandsAt, begun, key, marks_of, number, order, place, group_place, rank, with_mark}
 
 -- the groups rise, and would with one more at this place
 abbrev pub RiseTo : List Group → Place → Type 0
-RiseTo gs p = IsStrictlySortedBy order (map place_of gs ++ p ∷ [])
+RiseTo gs p = IsStrictlySortedBy order (map group_place gs ++ p ∷ [])
 
 -- a row is known by its rank and its number
 row_again : (r s : Row) → rank r ≡ rank s → number r ≡ number s → r ≡ s
@@ -81,17 +81,17 @@ rise_on (k ∷ ps) p q s lt = (
   rise_on ps p q s.1 lt,
 )
 
-map_more : (gs : List Group) (g : Group) → map place_of (gs ++ g ∷ []) ≡ map place_of gs ++ g.place ∷ []
+map_more : (gs : List Group) (g : Group) → map group_place (gs ++ g ∷ []) ≡ map group_place gs ++ g.place ∷ []
 map_more [] g = refl
 map_more (h ∷ gs) g = ap (λ l. h.place ∷ l) (map_more gs g)
 
 -- one group more
 pub rise_more : (gs : List Group) (g : Group) (q : Place) → RiseTo gs g.place → is_lt (order q g.place) ≡ false → (g.place ≡ q → ⊥) → RiseTo (gs ++ g ∷ []) q
 rise_more gs g q s late other =
-    subst (λ ps. IsStrictlySortedBy order (ps ++ q ∷ [])) (sym (map_more gs g)) (rise_on (map place_of gs) g.place q s (behind g.place q late other))
+    subst (λ ps. IsStrictlySortedBy order (ps ++ q ∷ [])) (sym (map_more gs g)) (rise_on (map group_place gs) g.place q s (behind g.place q late other))
 
 -- all groups
-pub rise_all : (gs : List Group) (g : Group) → RiseTo gs g.place → Rise (gs ++ g ∷ [])
+pub rise_all : (gs : List Group) (g : Group) → RiseTo gs g.place → GroupsRise (gs ++ g ∷ [])
 rise_all gs g s = subst (λ ps. IsStrictlySortedBy order ps) (sym (map_more gs g)) s
 
 -- how far marks are cut: the groups that are whole, and the one of the last mark
@@ -167,7 +167,7 @@ cut_other s first later i gs hs g k h m d up c lt read other eg ek eh =
       last = ap (place s) here;
     }
 
-rise_none : Rise []
+rise_none : GroupsRise []
 unfolding IsStrictlySortedBy
 rise_none = tt
 

@@ -6,7 +6,7 @@ use Rattle.std.proofs.lemmas.List.Elements.{filter-append}
 use Rattle.run_picture.specs.declared.mark.Mark.{Mark}
 use Rattle.run_picture.specs.declared.view.Window.{Window}
 use Rattle.run_picture.specs.View.{IsSeen, is_seen}
-use Rattle.run_picture.specs.Rows.{last_value, value}
+use Rattle.run_picture.specs.Rows.{last_painted, value}
 
 -- one mark more is looked at
 pub seen_more : (p : Mark → Bool) (ms : List Mark) (i : ℕ) (d : Mark) (out now : List Mark) → i < length ms → out ≡ filter p (take i ms) → now ≡ out ++ filter p (get_or ms i d ∷ [])
@@ -24,12 +24,12 @@ all_seen w (m ∷ ms) = go (is_seen w m) refl (all_seen w ms)
     go false e rest = rw e rest
 
 -- one value more is looked at
-pub value_more : (ms xs : List Mark) → xs ≡ ms → (i : ℕ) (d : Mark) (last now whole : ℕ) → i < length xs → last_value last (drop i ms) ≡ whole → now ≡ value (get_or xs i d).kind
-    → last_value now (drop (i + 1) ms) ≡ whole
+pub value_more : (ms xs : List Mark) → xs ≡ ms → (i : ℕ) (d : Mark) (last now whole : ℕ) → i < length xs → last_painted last (drop i ms) ≡ whole → now ≡ value (get_or xs i d).kind
+    → last_painted now (drop (i + 1) ms) ≡ whole
 value_more ms xs same i d last now whole lt before e =
     let inside : i < length ms = subst (λ l. i < length l) same lt in
-    ap (λ v. last_value v (drop (i + 1) ms)) (e ∙ ap (λ l. value (get_or l i d).kind) same) ∙ ap (last_value last) (sym (drop_more ms i d inside)) ∙ before
+    ap (λ v. last_painted v (drop (i + 1) ms)) (e ∙ ap (λ l. value (get_or l i d).kind) same) ∙ ap (last_painted last) (sym (drop_more ms i d inside)) ∙ before
 
 -- all values are looked at
-pub value_all : (ms xs : List Mark) → xs ≡ ms → (i last whole : ℕ) → length xs ≤ i → last_value last (drop i ms) ≡ whole → last ≡ whole
-value_all ms xs same i last whole le before = sym (ap (last_value last) (drop_all i ms (subst (λ l. length l ≤ i) same le))) ∙ before
+pub value_all : (ms xs : List Mark) → xs ≡ ms → (i last whole : ℕ) → length xs ≤ i → last_painted last (drop i ms) ≡ whole → last ≡ whole
+value_all ms xs same i last whole le before = sym (ap (last_painted last) (drop_all i ms (subst (λ l. length l ≤ i) same le))) ∙ before

@@ -8,7 +8,7 @@ use Rattle.std.proofs.lemmas.Bool.{cases_Bool, eqb-true}
 use Rattle.std.proofs.lemmas.Option.{same_Some, none-some}
 use Rattle.std.proofs.lemmas.List.{append-nil}
 use Rattle.std.proofs.lemmas.Slice.Eq.{bytes_eq-Decides}
-use Rattle.line_words.specs.Words.{number_of, IsShort, IsLong}
+use Rattle.line_words.specs.Words.{spelled_number, IsShort, IsLong}
 use Rattle.line_words.specs.Taking as taking
 use Rattle.line_words.specs.Taking.{Rest, and_then, below, by_word, whole}
 use Rattle.line_words.proofs.Spelling.{number_taken}
@@ -24,7 +24,7 @@ use Rattle.run_picture.specs.declared.line.Line.TheVariants.{Title, Looper, Past
 use Rattle.run_picture.specs.Reading as reading
 use Rattle.run_picture.specs.Lines as lines
 use Rattle.run_picture.specs.Lines.{adds_up}
-use Rattle.run_picture.specs.Text.{FitsSubject, Fits, line_words, subject_words, fates_words}
+use Rattle.run_picture.specs.Text.{FitsSubject, FitsReportLine, picture_line_words, subject_words, fates_words}
 
 -- ---- messages
 
@@ -57,7 +57,7 @@ callback_taken w rest y e =
       | inr other ↦ absurd (none-some y (rw other at e))
     ]
 
-subject_by_taken : (w : List ℕ) (o : Option ℕ) (rest : Rest) (y : Subject × Rest) → number_of w ≡ o → reading.subject_by w o rest ≡ Some y → SubjectTaken (w ∷ rest) y
+subject_by_taken : (w : List ℕ) (o : Option ℕ) (rest : Rest) (y : Subject × Rest) → spelled_number w ≡ o → reading.subject_by w o rest ≡ Some y → SubjectTaken (w ∷ rest) y
 subject_by_taken w None rest y is e = callback_taken w rest y e
 subject_by_taken w (Some n) rest y is e =
     let q = read_parted (option_map What (below (2 ^ 32) n)) rest y e in
@@ -68,33 +68,33 @@ subject_taken : (ws : Rest) (y : Subject × Rest) → reading.subject ws ≡ Som
 unfolding reading.subject
 subject_taken ws y e =
     let p = parted (taking.word ws) _ y e in
-    let t = subject_by_taken p.0.0 (number_of p.0.0) p.0.1 y refl p.2 in
+    let t = subject_by_taken p.0.0 (spelled_number p.0.0) p.0.1 y refl p.2 in
     (t.0, word_parted ws p.0 p.1 ∙ t.1)
 
 -- ---- lines
 
 abbrev LineTaken : Rest → Line → Type 0
-LineTaken ws l = Fits l × (ws ≡ line_words l)
+LineTaken ws l = FitsReportLine l × (ws ≡ picture_line_words l)
 
 -- nothing is left behind the words of a line
-whole_taken : (ws : Rest) (made : Line) (rest : Rest) (l : Line) → whole made rest ≡ Some l → Fits made → ws ≡ line_words made ++ rest → LineTaken ws l
-whole_taken ws made [] l e fit words = subst (LineTaken ws) (same_Some made l e) (fit, words ∙ append-nil (line_words made))
+whole_taken : (ws : Rest) (made : Line) (rest : Rest) (l : Line) → whole made rest ≡ Some l → FitsReportLine made → ws ≡ picture_line_words made ++ rest → LineTaken ws l
+whole_taken ws made [] l e fit words = subst (LineTaken ws) (same_Some made l e) (fit, words ∙ append-nil (picture_line_words made))
 whole_taken ws made (w ∷ rest) l e fit words = absurd (none-some l e)
 
 -- what stands behind this word is that of a line of both
 abbrev Takes : List ℕ → (Rest → Option Line) → Type 0
 Takes w by = (rest : Rest) (l : Line) → by rest ≡ Some l → LineTaken (w ∷ rest) l
 
-alone_taken : (w : List ℕ) (made : Line) → line_words made ≡ w ∷ [] → Fits made → Takes w (whole made)
+alone_taken : (w : List ℕ) (made : Line) → picture_line_words made ≡ w ∷ [] → FitsReportLine made → Takes w (whole made)
 alone_taken w made spelled fit rest l e = whole_taken (w ∷ rest) made rest l e fit (ap (λ ws. ws ++ rest) (sym spelled))
 
-one_taken : (w : List ℕ) (make : ℕ → Line) → ((n : ℕ) → line_words (make n) ≡ w ∷ decimal n ∷ []) → ((n : ℕ) → IsLong n → Fits (make n)) → Takes w (lines.one_long make)
+one_taken : (w : List ℕ) (make : ℕ → Line) → ((n : ℕ) → picture_line_words (make n) ≡ w ∷ decimal n ∷ []) → ((n : ℕ) → IsLong n → FitsReportLine (make n)) → Takes w (lines.one_long make)
 one_taken w make spelled fit rest l e =
     let p = parted (taking.long rest) _ l e in
     let t = long_taken rest p.0 p.1 in
     whole_taken (w ∷ rest) (make p.0.0) p.0.1 l p.2 (fit p.0.0 t.0) (ap (λ r. w ∷ r) t.1 ∙ ap (λ ws. ws ++ p.0.1) (sym (spelled p.0.0)))
 
-two_taken : (w : List ℕ) (make : ℕ → ℕ → Line) → ((a b : ℕ) → line_words (make a b) ≡ w ∷ decimal a ∷ decimal b ∷ []) → ((a b : ℕ) → IsShort a → IsShort b → Fits (make a b)) → Takes w (lines.two_short make)
+two_taken : (w : List ℕ) (make : ℕ → ℕ → Line) → ((a b : ℕ) → picture_line_words (make a b) ≡ w ∷ decimal a ∷ decimal b ∷ []) → ((a b : ℕ) → IsShort a → IsShort b → FitsReportLine (make a b)) → Takes w (lines.two_short make)
 two_taken w make spelled fit rest l e =
     let p0 = parted (taking.short rest) _ l e in
     let p1 = parted (taking.short p0.0.1) _ l p0.2 in
@@ -133,8 +133,8 @@ dispatch_taken now fit rest l e =
     whole_taken (decimal now ∷ rest) (Past (past_of.Dispatch now p1.0.0 p2.0.0 p3.0.0)) p3.0.1 l p3.2 (fit, t1.0, t2.0, t3.0)
     (ap (λ r. decimal now ∷ r) (t1.1 ∙ ap (λ r. codes "dispatch" ∷ decimal p1.0.0 ∷ r) (t2.1 ∙ ap (λ r. decimal p2.0.0 ∷ r) t3.1)))
 
-refused_taken : Takes (codes "refused") lines.refused
-unfolding lines.refused
+refused_taken : Takes (codes "refused") lines.refused_line
+unfolding lines.refused_line
 refused_taken rest l e =
     let p1 = parted (taking.short rest) _ l e in
     let p2 = parted (reading.subject p1.0.1) _ l p1.2 in
@@ -172,8 +172,8 @@ sum_taken rest p l t e =
       | inr other ↦ absurd (none-some l (rw other at e))
     ]
 
-fates_taken : Takes (codes "fates") lines.fates
-unfolding lines.fates
+fates_taken : Takes (codes "fates") lines.fates_said
+unfolding lines.fates_said
 fates_taken rest l e =
     let p = parted (lines.fates_of rest) _ l e in
     sum_taken rest p.0 l (fates_of_taken rest p.0 p.1) p.2
@@ -223,13 +223,13 @@ named_taken = rows_hold (λ w rest l. LineTaken (w ∷ rest) l) lines.rows (
   ),
 )
 
-by_taken : (w : List ℕ) (o : Option ℕ) (rest : Rest) (l : Line) → number_of w ≡ o → lines.line_by w o rest ≡ Some l → LineTaken (w ∷ rest) l
+by_taken : (w : List ℕ) (o : Option ℕ) (rest : Rest) (l : Line) → spelled_number w ≡ o → lines.line_by w o rest ≡ Some l → LineTaken (w ∷ rest) l
 by_taken w None rest l is e = named_taken w rest l e
 by_taken w (Some now) rest l is e =
     let t = dispatch_taken now (number_small w now is) rest l e in (t.0, ap (λ v. v ∷ rest) (number_taken w now is) ∙ t.1)
 
 -- a line that is read has these words, with numbers within their limits
-pub line_taken : (ws : Rest) (l : Line) → lines.line_of ws ≡ Some l → Fits l × (ws ≡ line_words l)
+pub line_taken : (ws : Rest) (l : Line) → lines.line_of ws ≡ Some l → FitsReportLine l × (ws ≡ picture_line_words l)
 unfolding lines.line_of
 line_taken [] l e = absurd (none-some l e)
-line_taken (w ∷ rest) l e = by_taken w (number_of w) rest l refl e
+line_taken (w ∷ rest) l e = by_taken w (spelled_number w) rest l refl e

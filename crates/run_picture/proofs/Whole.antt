@@ -8,7 +8,7 @@ use Rattle.std.proofs.lemmas.List.{append-nil, map-append, length-append}
 use Rattle.std.proofs.lemmas.List.Concat.{flat_map-append}
 use Rattle.loop_model.proofs.Sorting.{AllByRecursion-append}
 use Rattle.line_words.specs.Answers.{Finds, FindsAll, Names}
-use Rattle.line_words.specs.Words.{words, number_of}
+use Rattle.line_words.specs.Words.{words, spelled_number}
 use Rattle.line_words.specs.RefusedReading.{read_from, read_text}
 use Rattle.line_words.proofs.Refusing.{answer, failed}
 use Rattle.line_words.proofs.LineReading.{run, run_on, Continues, IsForm, plain_ended, plain_stopped, text_found, text_only, text_never, text_bad}
@@ -27,45 +27,45 @@ use Rattle.run_picture.specs.declared.line.Line.TheVariants.{Title, Looper, Past
 use Rattle.run_picture.specs.declared.draft.Part.{Part}
 use Rattle.run_picture.specs.declared.draft.Part.TheVariants as part_of
 use Rattle.run_picture.specs.declared.draft.Draft.{Draft}
-use Rattle.run_picture.specs.Text.{FitsFates, frame_lines, looper_lines, loopers_lines, lines, line_words, line_text, Fits, IsLeastBad, IsText}
+use Rattle.run_picture.specs.Text.{FitsFates, picture_frame_lines, picture_looper_lines, picture_loopers_lines, picture_lines, picture_line_words, picture_line_text, FitsReportLine, IsLeastBadOfReport, IsReportText}
 use Rattle.run_picture.specs.Lines.{line_of}
-use Rattle.run_picture.specs.Progress.{blank, opened, start, closed, shut, framed, with_past, with_act, with_run, after_part, after_open, next, is_end, report_of, reading, reports}
+use Rattle.run_picture.specs.Progress.{blank, opened, start, closed, shut, framed, with_past, with_act, with_run, after_part, after_open, next, is_report_end, report_of, reading, reports}
 use Rattle.line_words.proofs.Wording.{AreWords, words_again, words_taken, no_feed_within}
 use Rattle.run_picture.proofs.Taken.{line_taken}
 use Rattle.run_picture.proofs.Again.{line_again, line_are}
 
 abbrev AllFits : List Line → Type 0
-AllFits ls = AllByRecursion Fits ls
+AllFits ls = AllByRecursion FitsReportLine ls
 
 -- ---- one line
 
 -- the bytes of a line, without its line feed
 abbrev bytes_of : Line → List ℕ
-bytes_of l = join_with_byte 32 (line_words l)
+bytes_of l = join_with_byte 32 (picture_line_words l)
 
-fed : (l : Line) → line_text l ≡ bytes_of l ++ 10 ∷ []
-unfolding line_text
+fed : (l : Line) → picture_line_text l ≡ bytes_of l ++ 10 ∷ []
+unfolding picture_line_text
 fed l = refl
 
-words_said : (l : Line) (x : List ℕ) (ws : List (List ℕ)) → line_words l ≡ x ∷ ws → Fits l → line_of (words (bytes_of l)) ≡ Some l
+words_said : (l : Line) (x : List ℕ) (ws : List (List ℕ)) → picture_line_words l ≡ x ∷ ws → FitsReportLine l → line_of (words (bytes_of l)) ≡ Some l
 words_said l x ws e fit =
     let all : AreWords (x ∷ ws) = subst AreWords e (line_are l fit) in
     ap (λ v. line_of (words (join_with_byte 32 v))) e ∙ ap line_of (words_again x ws all) ∙ ap line_of (sym e) ∙ line_again l fit
 
-past_words_are : (p : PastData) → (x : List ℕ) × (ws : List (List ℕ)) × (line_words (Past p) ≡ x ∷ ws)
+past_words_are : (p : PastData) → (x : List ℕ) × (ws : List (List ℕ)) × (picture_line_words (Past p) ≡ x ∷ ws)
 past_words_are (past_of.Dispatch now number handler s) = (_, _, refl)
 past_words_are (past_of.Refused handler s place) = (_, _, refl)
 past_words_are (past_of.NotPosted token) = (_, _, refl)
 past_words_are past_of.NotAllowed = (_, _, refl)
 past_words_are (past_of.AlreadyQuit place) = (_, _, refl)
 
-act_words_are : (a : ActData) → (x : List ℕ) × (ws : List (List ℕ)) × (line_words (Act a) ≡ x ∷ ws)
+act_words_are : (a : ActData) → (x : List ℕ) × (ws : List (List ℕ)) × (picture_line_words (Act a) ≡ x ∷ ws)
 act_words_are (act_of.Idle id) = (_, _, refl)
 act_words_are (act_of.Event fd events) = (_, _, refl)
 act_words_are (act_of.Paint gauge value) = (_, _, refl)
 
 -- a line has words
-some_words : (l : Line) → (x : List ℕ) × (ws : List (List ℕ)) × (line_words l ≡ x ∷ ws)
+some_words : (l : Line) → (x : List ℕ) × (ws : List (List ℕ)) × (picture_line_words l ≡ x ∷ ws)
 some_words (Title edition) = (_, _, refl)
 some_words (Looper n) = (_, _, refl)
 some_words (Past p) = past_words_are p
@@ -75,14 +75,14 @@ some_words (Frame t) = (_, _, refl)
 some_words (Run r) = (_, _, refl)
 some_words End = (_, _, refl)
 
-read_again : (l : Line) → Fits l → line_of (words (bytes_of l)) ≡ Some l
+read_again : (l : Line) → FitsReportLine l → line_of (words (bytes_of l)) ≡ Some l
 read_again l fit = let w = some_words l in words_said l w.0 w.1 w.2 fit
 
 -- ---- the lines of a draft
 
 -- the loopers that have all their lines
 abbrev front_lines : Draft → List Line
-front_lines d = Title d.edition ∷ loopers_lines 0 d.loopers
+front_lines d = Title d.edition ∷ picture_loopers_lines 0 d.loopers
 
 -- the looper's line, and its history
 abbrev past_lines : ℕ → LooperData → List Line
@@ -98,7 +98,7 @@ so_far part_of.Start d = []
 so_far part_of.Open d = front_lines d
 so_far part_of.Past d = front_lines d ++ past_lines (length d.loopers) d.current
 so_far part_of.Acts d = front_lines d ++ act_lines (length d.loopers) d.current
-so_far part_of.Frames d = front_lines d ++ looper_lines (length d.loopers) (framed d.current d.frame)
+so_far part_of.Frames d = front_lines d ++ picture_looper_lines (length d.loopers) (framed d.current d.frame)
 so_far part_of.End d = front_lines d ++ End ∷ []
 
 -- what is empty in a draft
@@ -111,22 +111,22 @@ IsSound part_of.Frames d = Unit {0}
 IsSound part_of.End d = Unit {0}
 
 -- one looper more
-loopers_more : (n : ℕ) (ls : List LooperData) (l : LooperData) → loopers_lines n (ls ++ l ∷ []) ≡ loopers_lines n ls ++ looper_lines (n + length ls) l
-loopers_more n [] l = let same : n + 0 ≡ n = omega arith in append-nil (looper_lines n l) ∙ ap (λ k. looper_lines k l) (sym same)
+loopers_more : (n : ℕ) (ls : List LooperData) (l : LooperData) → picture_loopers_lines n (ls ++ l ∷ []) ≡ picture_loopers_lines n ls ++ picture_looper_lines (n + length ls) l
+loopers_more n [] l = let same : n + 0 ≡ n = omega arith in append-nil (picture_looper_lines n l) ∙ ap (λ k. picture_looper_lines k l) (sym same)
 loopers_more n (k ∷ ls) l =
     let same : n + 1 + length ls ≡ n + suc (length ls) = omega arith in
-    ap (λ x. looper_lines n k ++ x) (loopers_more (n + 1) ls l ∙ ap (λ m. loopers_lines (n + 1) ls ++ looper_lines m l) same)
-    ∙ sym (append_assoc (looper_lines n k) (loopers_lines (n + 1) ls) (looper_lines (n + suc (length ls)) l))
+    ap (λ x. picture_looper_lines n k ++ x) (loopers_more (n + 1) ls l ∙ ap (λ m. picture_loopers_lines (n + 1) ls ++ picture_looper_lines m l) same)
+    ∙ sym (append_assoc (picture_looper_lines n k) (picture_loopers_lines (n + 1) ls) (picture_looper_lines (n + suc (length ls)) l))
 
 zero_more : (n : ℕ) → 0 + n ≡ n
 zero_more n = omega arith
 
-closed_lines : (d : Draft) → front_lines (closed d) ≡ front_lines d ++ looper_lines (length d.loopers) d.current
-closed_lines d = ap (λ x. Title d.edition ∷ x) (loopers_more 0 d.loopers d.current ∙ ap (λ n. loopers_lines 0 d.loopers ++ looper_lines n d.current) (zero_more (length d.loopers)))
+closed_lines : (d : Draft) → front_lines (closed d) ≡ front_lines d ++ picture_looper_lines (length d.loopers) d.current
+closed_lines d = ap (λ x. Title d.edition ∷ x) (loopers_more 0 d.loopers d.current ∙ ap (λ n. picture_loopers_lines 0 d.loopers ++ picture_looper_lines n d.current) (zero_more (length d.loopers)))
 
 -- a looper without frames has the lines up to its journal
-no_frames : (n : ℕ) (l : LooperData) → l.frames ≡ [] → looper_lines n l ≡ act_lines n l
-no_frames n l none = ap (λ fs. act_lines n l ++ flat_map frame_lines fs) none ∙ append-nil (act_lines n l)
+no_frames : (n : ℕ) (l : LooperData) → l.frames ≡ [] → picture_looper_lines n l ≡ act_lines n l
+no_frames n l none = ap (λ fs. act_lines n l ++ flat_map picture_frame_lines fs) none ∙ append-nil (act_lines n l)
 
 abbrev Grown : List Line → Line → Draft → Type 0
 Grown ls l e = (ls ++ l ∷ [] ≡ so_far e.part e) × IsSound e.part e
@@ -134,7 +134,7 @@ Grown ls l e = (ls ++ l ∷ [] ≡ so_far e.part e) × IsSound e.part e
 start_grows : (d e : Draft) (l : Line) → IsSound part_of.Start d → after_part part_of.Start d l ≡ Some e → Grown [] l e
 start_grows d e (Title n) sound h =
     let made : Draft = record d { part = part_of.Open; edition = n } in
-    subst (Grown [] (Title n)) (same_Some made e h) (ap (λ ls. Title n ∷ loopers_lines 0 ls) (sym sound.0), sound.1)
+    subst (Grown [] (Title n)) (same_Some made e h) (ap (λ ls. Title n ∷ picture_loopers_lines 0 ls) (sym sound.0), sound.1)
 start_grows d e (Looper n) sound h = absurd (none-some e h)
 start_grows d e (Past p) sound h = absurd (none-some e h)
 start_grows d e (Fates f) sound h = absurd (none-some e h)
@@ -205,8 +205,8 @@ acts_grow d e (Act a) is sound h =
 acts_grow d e (Frame t) is sound h =
     let made : Draft = record d { part = part_of.Frames; frame = opened t } in
     let n = length d.loopers in
-    let last : looper_lines n (framed d.current (opened t)) ≡ act_lines n d.current ++ Frame t ∷ [] =
-    ap (λ fs. act_lines n d.current ++ flat_map frame_lines (fs ++ opened t ∷ [])) sound in
+    let last : picture_looper_lines n (framed d.current (opened t)) ≡ act_lines n d.current ++ Frame t ∷ [] =
+    ap (λ fs. act_lines n d.current ++ flat_map picture_frame_lines (fs ++ opened t ∷ [])) sound in
     let lines_are : so_far part_of.Acts d ++ Frame t ∷ [] ≡ so_far part_of.Frames made =
     append_assoc (front_lines d) (act_lines n d.current) (Frame t ∷ []) ∙ ap (λ x. front_lines d ++ x) (sym last) in
     subst (Grown (so_far part_of.Acts d) (Frame t)) (same_Some made e h) (lines_are, tt)
@@ -214,11 +214,11 @@ acts_grow d e (Run r) is sound h = absurd (none-some e h)
 acts_grow d e End is sound h = subst (λ x. Grown x End e) (closed_lines d ∙ ap (λ x. front_lines d ++ x) (no_frames (length d.loopers) d.current sound)) (end_grows (closed d) e h)
 
 -- one frame more
-frames_more : (n : ℕ) (l : LooperData) (f : FrameData) → looper_lines n (framed l f) ≡ looper_lines n l ++ frame_lines f
+frames_more : (n : ℕ) (l : LooperData) (f : FrameData) → picture_looper_lines n (framed l f) ≡ picture_looper_lines n l ++ picture_frame_lines f
 frames_more n l f =
-    let grown : flat_map frame_lines (l.frames ++ f ∷ []) ≡ flat_map frame_lines l.frames ++ frame_lines f =
-    flat_map-append frame_lines l.frames (f ∷ []) ∙ ap (λ x. flat_map frame_lines l.frames ++ x) (append-nil (frame_lines f)) in
-    ap (λ x. act_lines n l ++ x) grown ∙ sym (append_assoc (act_lines n l) (flat_map frame_lines l.frames) (frame_lines f))
+    let grown : flat_map picture_frame_lines (l.frames ++ f ∷ []) ≡ flat_map picture_frame_lines l.frames ++ picture_frame_lines f =
+    flat_map-append picture_frame_lines l.frames (f ∷ []) ∙ ap (λ x. flat_map picture_frame_lines l.frames ++ x) (append-nil (picture_frame_lines f)) in
+    ap (λ x. act_lines n l ++ x) grown ∙ sym (append_assoc (act_lines n l) (flat_map picture_frame_lines l.frames) (picture_frame_lines f))
 
 shut_lines : (d : Draft) → front_lines (closed (shut 0 d)) ≡ so_far part_of.Frames d
 shut_lines d = closed_lines (shut 0 d)
@@ -234,17 +234,17 @@ frames_grow d e (Frame t) is h =
     let same : shut t d ≡ made = ap (λ q. record d { part = q; current = framed d.current d.frame; frame = opened t }) is in
     let n = length d.loopers in
     let lines_are : so_far part_of.Frames d ++ Frame t ∷ [] ≡ so_far part_of.Frames made =
-    append_assoc (front_lines d) (looper_lines n (framed d.current d.frame)) (Frame t ∷ []) ∙ ap (λ x. front_lines d ++ x) (sym (frames_more n (framed d.current d.frame) (opened t))) in
+    append_assoc (front_lines d) (picture_looper_lines n (framed d.current d.frame)) (Frame t ∷ []) ∙ ap (λ x. front_lines d ++ x) (sym (frames_more n (framed d.current d.frame) (opened t))) in
     subst (Grown (so_far part_of.Frames d) (Frame t)) (sym same ∙ same_Some (shut t d) e h) (lines_are, tt)
 frames_grow d e (Run r) is h =
     let made : Draft = record d { part = part_of.Frames; frame = with_run d.frame r } in
     let same : record d { frame = with_run d.frame r } ≡ made = ap (λ q. record d { part = q; frame = with_run d.frame r }) is in
     let n = length d.loopers in
-    let grown : looper_lines n (framed d.current d.frame) ++ Run r ∷ [] ≡ looper_lines n (framed d.current (with_run d.frame r)) =
-    ap (λ x. x ++ Run r ∷ []) (frames_more n d.current d.frame) ∙ append_assoc (looper_lines n d.current) (frame_lines d.frame) (Run r ∷ [])
-    ∙ ap (λ x. looper_lines n d.current ++ Frame d.frame.time ∷ x) (sym (map-append Run d.frame.runs (r ∷ []))) ∙ sym (frames_more n d.current (with_run d.frame r)) in
+    let grown : picture_looper_lines n (framed d.current d.frame) ++ Run r ∷ [] ≡ picture_looper_lines n (framed d.current (with_run d.frame r)) =
+    ap (λ x. x ++ Run r ∷ []) (frames_more n d.current d.frame) ∙ append_assoc (picture_looper_lines n d.current) (picture_frame_lines d.frame) (Run r ∷ [])
+    ∙ ap (λ x. picture_looper_lines n d.current ++ Frame d.frame.time ∷ x) (sym (map-append Run d.frame.runs (r ∷ []))) ∙ sym (frames_more n d.current (with_run d.frame r)) in
     let lines_are : so_far part_of.Frames d ++ Run r ∷ [] ≡ so_far part_of.Frames made =
-    append_assoc (front_lines d) (looper_lines n (framed d.current d.frame)) (Run r ∷ []) ∙ ap (λ x. front_lines d ++ x) grown in
+    append_assoc (front_lines d) (picture_looper_lines n (framed d.current d.frame)) (Run r ∷ []) ∙ ap (λ x. front_lines d ++ x) grown in
     subst (Grown (so_far part_of.Frames d) (Run r)) (sym same ∙ same_Some (record d { frame = with_run d.frame r }) e h) (lines_are, tt)
 frames_grow d e End is h = subst (λ x. Grown x End e) (shut_lines d) (end_grows (closed (shut 0 d)) e h)
 
@@ -277,12 +277,12 @@ unfolding no_fates
 zero_fits = (omega arith, omega arith, omega arith, omega arith, omega arith, omega arith, refl)
 
 -- the report ends with this looper
-ended_by : (d : Draft) (l : LooperData) (ls more : List Line) → ls ++ more ≡ front_lines d ++ looper_lines (length d.loopers) l → AllFits more → Continues Fits lines ls
+ended_by : (d : Draft) (l : LooperData) (ls more : List Line) → ls ++ more ≡ front_lines d ++ picture_looper_lines (length d.loopers) l → AllFits more → Continues FitsReportLine picture_lines ls
 ended_by d l ls more e fit =
     let r : Report = record { edition = d.edition; loopers = d.loopers ++ l ∷ [] } in
-    (r, more ++ End ∷ [], sym (append_assoc ls more (End ∷ [])) ∙ ap (λ x. x ++ End ∷ []) (e ∙ sym (closed_lines (record d { current = l }))), AllByRecursion-append Fits more (End ∷ []) fit (tt, tt))
+    (r, more ++ End ∷ [], sym (append_assoc ls more (End ∷ [])) ∙ ap (λ x. x ++ End ∷ []) (e ∙ sym (closed_lines (record d { current = l }))), AllByRecursion-append FitsReportLine more (End ∷ []) fit (tt, tt))
 
-continues : (p : Part) (d : Draft) → IsSound p d → Continues Fits lines (so_far p d)
+continues : (p : Part) (d : Draft) → IsSound p d → Continues FitsReportLine picture_lines (so_far p d)
 unfolding no_fates
 continues part_of.Start d sound = (record { edition = 1; loopers = [] }, Title 1 ∷ End ∷ [], refl, (inl refl, (tt, tt)))
 continues part_of.Open d sound = (report_of d, End ∷ [], refl, (tt, tt))
@@ -337,13 +337,13 @@ runs_run e ls l t before (r ∷ rs) = runs_run e ls l t (before ++ r ∷ []) rs 
 
 -- a frame behind a frame
 frame_run : (e : ℕ) (ls : List LooperData) (l : LooperData) (before : List FrameData) (f g : FrameData)
-    → run reading (within part_of.Frames e ls (holding_frames l before) f) (frame_lines g) ≡ Some (within part_of.Frames e ls (holding_frames l (before ++ f ∷ [])) g)
+    → run reading (within part_of.Frames e ls (holding_frames l before) f) (picture_frame_lines g) ≡ Some (within part_of.Frames e ls (holding_frames l (before ++ f ∷ [])) g)
 unfolding run next
 frame_run e ls l before f g = runs_run e ls (holding_frames l (before ++ f ∷ [])) g.time [] g.runs
 
 -- the first frame of a looper
 first_run : (e : ℕ) (ls : List LooperData) (l : LooperData) (f : FrameData)
-    → run reading (within part_of.Acts e ls (holding_frames l []) (opened 0)) (frame_lines f) ≡ Some (within part_of.Frames e ls (holding_frames l []) f)
+    → run reading (within part_of.Acts e ls (holding_frames l []) (opened 0)) (picture_frame_lines f) ≡ Some (within part_of.Frames e ls (holding_frames l []) f)
 unfolding run next
 first_run e ls l f = runs_run e ls (holding_frames l []) f.time [] f.runs
 
@@ -400,61 +400,61 @@ same_next c d x rest e = ap (option_and_then (λ y. run reading y rest)) e
 
 -- the frames that are left, and what closes the looper
 frames_run : (e : ℕ) (ls : List LooperData) (l : LooperData) (before : List FrameData) (f : FrameData) (fs : List FrameData) (x : Line) (rest : List Line) (d : Draft) → Closes x
-    → run reading (between e (ls ++ holding_frames l (before ++ f ∷ fs) ∷ [])) (x ∷ rest) ≡ Some d → run reading (within part_of.Frames e ls (holding_frames l before) f) (flat_map frame_lines fs ++ x ∷ rest) ≡ Some d
+    → run reading (between e (ls ++ holding_frames l (before ++ f ∷ fs) ∷ [])) (x ∷ rest) ≡ Some d → run reading (within part_of.Frames e ls (holding_frames l before) f) (flat_map picture_frame_lines fs ++ x ∷ rest) ≡ Some d
 frames_run e ls l before f [] x rest d c h =
     same_next (within part_of.Frames e ls (holding_frames l before) f) (between e (ls ++ holding_frames l (before ++ f ∷ []) ∷ [])) x rest (frames_close e ls (holding_frames l before) f x c) ∙ h
 frames_run e ls l before f (g ∷ fs) x rest d c h =
     let later = frames_run e ls l (before ++ f ∷ []) g fs x rest d c (ap (λ gs. run reading (between e (ls ++ holding_frames l gs ∷ [])) (x ∷ rest)) (append_assoc before (f ∷ []) (g ∷ fs)) ∙ h) in
-    ap (run reading (within part_of.Frames e ls (holding_frames l before) f)) (append_assoc (frame_lines g) (flat_map frame_lines fs) (x ∷ rest))
-    ∙ run_on reading (within part_of.Frames e ls (holding_frames l before) f) (within part_of.Frames e ls (holding_frames l (before ++ f ∷ [])) g) d (frame_lines g) (flat_map frame_lines fs ++ x ∷ rest) (frame_run e ls l before f g) later
+    ap (run reading (within part_of.Frames e ls (holding_frames l before) f)) (append_assoc (picture_frame_lines g) (flat_map picture_frame_lines fs) (x ∷ rest))
+    ∙ run_on reading (within part_of.Frames e ls (holding_frames l before) f) (within part_of.Frames e ls (holding_frames l (before ++ f ∷ [])) g) d (picture_frame_lines g) (flat_map picture_frame_lines fs ++ x ∷ rest) (frame_run e ls l before f g) later
 
 -- all frames, and what closes the looper
 rest_run : (e : ℕ) (ls : List LooperData) (l : LooperData) (fs : List FrameData) (x : Line) (rest : List Line) (d : Draft) → Closes x
-    → run reading (between e (ls ++ holding_frames l fs ∷ [])) (x ∷ rest) ≡ Some d → run reading (within part_of.Acts e ls (holding_frames l []) (opened 0)) (flat_map frame_lines fs ++ x ∷ rest) ≡ Some d
+    → run reading (between e (ls ++ holding_frames l fs ∷ [])) (x ∷ rest) ≡ Some d → run reading (within part_of.Acts e ls (holding_frames l []) (opened 0)) (flat_map picture_frame_lines fs ++ x ∷ rest) ≡ Some d
 rest_run e ls l [] x rest d c h =
     same_next (within part_of.Acts e ls (holding_frames l []) (opened 0)) (between e (ls ++ holding_frames l [] ∷ [])) x rest (acts_close e ls (holding_frames l []) x c) ∙ h
 rest_run e ls l (f ∷ fs) x rest d c h =
-    ap (run reading (within part_of.Acts e ls (holding_frames l []) (opened 0))) (append_assoc (frame_lines f) (flat_map frame_lines fs) (x ∷ rest))
-    ∙ run_on reading (within part_of.Acts e ls (holding_frames l []) (opened 0)) (within part_of.Frames e ls (holding_frames l []) f) d (frame_lines f) (flat_map frame_lines fs ++ x ∷ rest) (first_run e ls l f) (frames_run e ls l [] f fs x rest d c h)
+    ap (run reading (within part_of.Acts e ls (holding_frames l []) (opened 0))) (append_assoc (picture_frame_lines f) (flat_map picture_frame_lines fs) (x ∷ rest))
+    ∙ run_on reading (within part_of.Acts e ls (holding_frames l []) (opened 0)) (within part_of.Frames e ls (holding_frames l []) f) d (picture_frame_lines f) (flat_map picture_frame_lines fs ++ x ∷ rest) (first_run e ls l f) (frames_run e ls l [] f fs x rest d c h)
 
 looper_run : (e : ℕ) (ls : List LooperData) (l : LooperData) (x : Line) (rest : List Line) (d : Draft) → Closes x
-    → run reading (between e (ls ++ l ∷ [])) (x ∷ rest) ≡ Some d → run reading (between e ls) (looper_lines (length ls) l ++ x ∷ rest) ≡ Some d
+    → run reading (between e (ls ++ l ∷ [])) (x ∷ rest) ≡ Some d → run reading (between e ls) (picture_looper_lines (length ls) l ++ x ∷ rest) ≡ Some d
 looper_run e ls l x rest d c h =
     let n = length ls in
-    let cut : looper_lines n l ++ x ∷ rest ≡ act_lines n l ++ (flat_map frame_lines l.frames ++ x ∷ rest) =
-    append_assoc (act_lines n l) (flat_map frame_lines l.frames) (x ∷ rest) in
+    let cut : picture_looper_lines n l ++ x ∷ rest ≡ act_lines n l ++ (flat_map picture_frame_lines l.frames ++ x ∷ rest) =
+    append_assoc (act_lines n l) (flat_map picture_frame_lines l.frames) (x ∷ rest) in
     ap (run reading (between e ls)) cut
-    ∙ run_on reading (between e ls) (within part_of.Acts e ls (holding_frames l []) (opened 0)) d (act_lines n l) (flat_map frame_lines l.frames ++ x ∷ rest) (front_run e ls l) (rest_run e ls l l.frames x rest d c h)
+    ∙ run_on reading (between e ls) (within part_of.Acts e ls (holding_frames l []) (opened 0)) d (act_lines n l) (flat_map picture_frame_lines l.frames ++ x ∷ rest) (front_run e ls l) (rest_run e ls l l.frames x rest d c h)
 
 -- ---- all loopers
 
 -- what follows a looper closes it
-closing : (n : ℕ) (ms : List LooperData) (x : Line) (rest : List Line) → Closes x → (y : Line) × (more : List Line) × (loopers_lines n ms ++ x ∷ rest ≡ y ∷ more) × Closes y
+closing : (n : ℕ) (ms : List LooperData) (x : Line) (rest : List Line) → Closes x → (y : Line) × (more : List Line) × (picture_loopers_lines n ms ++ x ∷ rest ≡ y ∷ more) × Closes y
 closing n [] x rest c = (x, rest, refl, c)
 closing n (m ∷ ms) x rest c = (Looper n, _, refl, tt)
 
 loopers_run : (e : ℕ) (ls ms : List LooperData) (x : Line) (rest : List Line) (d : Draft) → Closes x
-    → run reading (between e (ls ++ ms)) (x ∷ rest) ≡ Some d → run reading (between e ls) (loopers_lines (length ls) ms ++ x ∷ rest) ≡ Some d
+    → run reading (between e (ls ++ ms)) (x ∷ rest) ≡ Some d → run reading (between e ls) (picture_loopers_lines (length ls) ms ++ x ∷ rest) ≡ Some d
 loopers_run e ls [] x rest d c h = ap (λ ks. run reading (between e ks) (x ∷ rest)) (sym (append-nil ls)) ∙ h
 loopers_run e ls (m ∷ ms) x rest d c h =
     let n = length ls in
     let count : length (ls ++ m ∷ []) ≡ n + 1 = omega (arith, length-append ls (m ∷ [])) in
-    let later : run reading (between e (ls ++ m ∷ [])) (loopers_lines (n + 1) ms ++ x ∷ rest) ≡ Some d =
-    ap (λ k. run reading (between e (ls ++ m ∷ [])) (loopers_lines k ms ++ x ∷ rest)) (sym count) ∙ loopers_run e (ls ++ m ∷ []) ms x rest d c (ap (λ ks. run reading (between e ks) (x ∷ rest)) (append_assoc ls (m ∷ []) ms) ∙ h) in
+    let later : run reading (between e (ls ++ m ∷ [])) (picture_loopers_lines (n + 1) ms ++ x ∷ rest) ≡ Some d =
+    ap (λ k. run reading (between e (ls ++ m ∷ [])) (picture_loopers_lines k ms ++ x ∷ rest)) (sym count) ∙ loopers_run e (ls ++ m ∷ []) ms x rest d c (ap (λ ks. run reading (between e ks) (x ∷ rest)) (append_assoc ls (m ∷ []) ms) ∙ h) in
     let y = closing (n + 1) ms x rest c in
-    let one : run reading (between e ls) (looper_lines n m ++ y.0 ∷ y.1) ≡ Some d = looper_run e ls m y.0 y.1 d y.3 (ap (run reading (between e (ls ++ m ∷ []))) (sym y.2) ∙ later) in
-    ap (run reading (between e ls)) (append_assoc (looper_lines n m) (loopers_lines (n + 1) ms) (x ∷ rest) ∙ ap (λ z. looper_lines n m ++ z) y.2) ∙ one
+    let one : run reading (between e ls) (picture_looper_lines n m ++ y.0 ∷ y.1) ≡ Some d = looper_run e ls m y.0 y.1 d y.3 (ap (run reading (between e (ls ++ m ∷ []))) (sym y.2) ∙ later) in
+    ap (run reading (between e ls)) (append_assoc (picture_looper_lines n m) (picture_loopers_lines (n + 1) ms) (x ∷ rest) ∙ ap (λ z. picture_looper_lines n m ++ z) y.2) ∙ one
 
 abbrev finished : Report → Draft
 finished r = record { part = part_of.End; edition = r.edition; loopers = r.loopers; current = blank; frame = opened 0 }
 
-lines_run : (r : Report) → run reading start (lines r) ≡ Some (finished r)
+lines_run : (r : Report) → run reading start (picture_lines r) ≡ Some (finished r)
 unfolding run next
 lines_run r = loopers_run r.edition [] r.loopers End [] (finished r) tt refl
 
 -- ---- the whole text
 
-ending : (q : Part) (d : Draft) (ls : List Line) → is_end q ≡ true → ls ≡ so_far q d → ls ≡ lines (report_of d)
+ending : (q : Part) (d : Draft) (ls : List Line) → is_report_end q ≡ true → ls ≡ so_far q d → ls ≡ picture_lines (report_of d)
 ending part_of.Start d ls e w = absurd cc
 ending part_of.Open d ls e w = absurd cc
 ending part_of.Past d ls e w = absurd cc
@@ -463,41 +463,41 @@ ending part_of.Frames d ls e w = absurd cc
 ending part_of.End d ls e w = w
 
 pub nothing_said : line_of (words []) ≡ None
-unfolding line_of number_of
+unfolding line_of spelled_number
 nothing_said = refl
 
-form : IsForm reading bytes_of line_text lines Fits Stands
+form : IsForm reading bytes_of picture_line_text picture_lines FitsReportLine Stands
 form = record {
   fed = fed;
-  free = λ l fit. no_feed_within (line_words l) (line_are l fit);
+  free = λ l fit. no_feed_within (picture_line_words l) (line_are l fit);
   again = read_again;
-  taken = λ bytes l is. (let t = line_taken (words bytes) l is in (t.0, words_taken bytes (line_words l) t.1));
+  taken = λ bytes l is. (let t = line_taken (words bytes) l is in (t.0, words_taken bytes (picture_line_words l) t.1));
   empty = nothing_said;
   leads = λ t. (finished t, lines_run t, refl, refl);
   starts = record { written = refl; sound = (refl, refl) };
   more = stands_on;
   ends = λ d ls s e. ending d.part d ls e s.written;
-  continues = λ d ls s. subst (Continues Fits lines) (sym s.written) (continues d.part d s.sound);
+  continues = λ d ls s. subst (Continues FitsReportLine picture_lines) (sym s.written) (continues d.part d s.sound);
 }
 
 -- ---- where a text stops
 
-pub text_ends : (k : ℕ) (d : Draft) (bytes : List ℕ) → (eqb (length bytes) 0 && is_end d.part) ≡ true → read_from reports k d (bytes ∷ []) ≡ answer (report_of d)
+pub text_ends : (k : ℕ) (d : Draft) (bytes : List ℕ) → (eqb (length bytes) 0 && is_report_end d.part) ≡ true → read_from reports k d (bytes ∷ []) ≡ answer (report_of d)
 text_ends k d bytes ends = plain_ended form k d bytes ends
 
-pub text_stops : (k : ℕ) (d : Draft) (bytes : List ℕ) → (eqb (length bytes) 0 && is_end d.part) ≡ false → read_from reports k d (bytes ∷ []) ≡ failed k tt
+pub text_stops : (k : ℕ) (d : Draft) (bytes : List ℕ) → (eqb (length bytes) 0 && is_report_end d.part) ≡ false → read_from reports k d (bytes ∷ []) ≡ failed k tt
 text_stops k d bytes other = plain_stopped form k d bytes other
 
 -- ---- what is answered
 
-pub found_in : (b : List ℕ) (s : Report) → read_text reports b ≡ Ok s → Finds parsed.Ok IsText (parsed.Ok s) b
+pub found_in : (b : List ℕ) (s : Report) → read_text reports b ≡ Ok s → Finds parsed.Ok IsReportText (parsed.Ok s) b
 found_in b s e t is = let same : s ≡ t = cc in text_found form b t (e ∙ ap answer same)
 
-pub found_only : (b : List ℕ) (s : Report) → read_text reports b ≡ Ok s → FindsAll parsed.Ok parsed.NoMemory IsText (parsed.Ok s) b
+pub found_only : (b : List ℕ) (s : Report) → read_text reports b ≡ Ok s → FindsAll parsed.Ok parsed.NoMemory IsReportText (parsed.Ok s) b
 found_only b s e t is = inl (ap parsed.Ok (text_only form b s t e is))
 
-pub found_never : (b : List ℕ) (k : ℕ) → read_text reports b ≡ Err (k, tt) → FindsAll parsed.Ok parsed.NoMemory IsText (parsed.Bad k) b
+pub found_never : (b : List ℕ) (k : ℕ) → read_text reports b ≡ Err (k, tt) → FindsAll parsed.Ok parsed.NoMemory IsReportText (parsed.Bad k) b
 found_never b k e t is = absurd (text_never form b k tt t e is)
 
-pub refused_as : (b : List ℕ) (k : ℕ) → read_text reports b ≡ Err (k, tt) → Names parsed.Bad IsLeastBad (parsed.Bad k) b
-refused_as b k e j is = let same : k ≡ j = cc in subst (IsLeastBad b) same (text_bad form b k tt e)
+pub refused_as : (b : List ℕ) (k : ℕ) → read_text reports b ≡ Err (k, tt) → Names parsed.Bad IsLeastBadOfReport (parsed.Bad k) b
+refused_as b k e j is = let same : k ≡ j = cc in subst (IsLeastBadOfReport b) same (text_bad form b k tt e)

@@ -9,7 +9,7 @@ use Rattle.run_picture.specs.declared.shelf.Shelf.{Shelf}
 use Rattle.run_picture.specs.declared.view.View.{View}
 use Rattle.run_picture.specs.View.{HasEdgesOf, seen_marks}
 use Rattle.run_picture.specs.Rows.{IsRowOf, StandsBehind, level}
-use Rattle.run_picture.specs.Groups.{IsOfPlace, HasMarks, KeepOrder, Rise, Shows, marks_of}
+use Rattle.run_picture.specs.Groups.{IsOfPlace, HasMarks, KeepOrder, GroupsRise, ShowsTime, marks_of}
 use Rattle.run_picture.specs.Labels.{entity, group_text}
 
 -- how the element of a group begins
@@ -53,11 +53,11 @@ pub record Draws (v : View) (r : Report) (text : List ℕ) : Type 0 where
   pub marked : IsPermutation (seen_marks v r) (flat_map marks_of groups)
   pub placed : AllByRecursion (IsOfPlace scale) groups
   pub some : AllByRecursion HasMarks groups
-  pub rising : Rise groups
+  pub rising : GroupsRise groups
   pub ordered : KeepOrder scale (seen_marks v r) (flat_map marks_of groups)
   pub wide : scale.width ≡ v.width - 174
   pub edges : HasEdgesOf v.window scale
-  pub shown : AllByRecursion (Shows scale) (seen_marks v r)
+  pub shown : AllByRecursion (ShowsTime scale) (seen_marks v r)
   pub fine : length (seen_marks v r) ≤ 4000 → scale.step ≡ 1
   pub bare : HasNoElement background
   pub elements : AreElements most None groups (background ++ lanes) drawn

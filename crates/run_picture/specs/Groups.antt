@@ -16,11 +16,11 @@ use Rattle.run_picture.specs.declared.group.Scale.{Scale}
 use Rattle.run_picture.specs.declared.group.Group.{Group}
 
 -- the row of a mark
-abbrev pub row_of : Kind → Row
-row_of (kind_of.Dispatch number handler subject) = Handler handler
-row_of kind_of.Frame = Frames
-row_of (kind_of.Run r) = Runs
-row_of (kind_of.Paint gauge value) = Gauge gauge
+abbrev pub mark_row : Kind → Row
+mark_row (kind_of.Dispatch number handler subject) = Handler handler
+mark_row kind_of.Frame = Frames
+mark_row (kind_of.Run r) = Runs
+mark_row (kind_of.Paint gauge value) = Gauge gauge
 
 -- a moment in nanoseconds
 abbrev pub nanos : Moment → ℕ
@@ -43,7 +43,7 @@ column s m = let x = min (pixels s (nanos m.time) + shift s m.kind) s.width in x
 
 -- where a mark stands: in its looper's lane, the row of its kind, and at its time
 abbrev pub place : Scale → Mark → Place
-place s m = record { lane = m.lane; row = row_of m.kind; column = column s m }
+place s m = record { lane = m.lane; row = mark_row m.kind; column = column s m }
 
 abbrev pub marks_of : Group → List Mark
 marks_of g = g.marks
@@ -82,12 +82,12 @@ key p = p.lane ∷ rank p.row ∷ number p.row ∷ p.column ∷ []
 abbrev pub order : Place → Place → Ordering
 order p q = slice_cmp nat_cmp (key p) (key q)
 
-abbrev pub place_of : Group → Place
-place_of g = g.place
+abbrev pub group_place : Group → Place
+group_place g = g.place
 
 -- each group stands before all behind it, so that no two stand at one place
-abbrev pub Rise : List Group → Type 0
-Rise gs = IsStrictlySortedBy order (map place_of gs)
+abbrev pub GroupsRise : List Group → Type 0
+GroupsRise gs = IsStrictlySortedBy order (map group_place gs)
 
 -- marks of one place stand in the order in which they stood
 abbrev pub KeepOrder : Scale → List Mark → List Mark → Type 0
@@ -98,15 +98,15 @@ abbrev pub IsBetween : ℕ → ℕ → Mark → Type 0
 IsBetween first last m = (first ≤ nanos m.time) × (nanos m.time ≤ last)
 
 -- the width of the picture shows the mark's time
-abbrev pub Shows : Scale → Mark → Type 0
-Shows s m = IsBetween s.first (s.first + s.span) m
+abbrev pub ShowsTime : Scale → Mark → Type 0
+ShowsTime s m = IsBetween s.first (s.first + s.span) m
 
 -- groups into which marks are cut, in order: each has some marks, all of them at its place, and the places rise
 pub record AreCut (s : Scale) (ms : List Mark) (gs : List Group) : Type 0 where
   pub all : flat_map marks_of gs ≡ ms
   pub places : AllByRecursion (IsOfPlace s) gs
   pub marked : AllByRecursion HasMarks gs
-  pub rising : Rise gs
+  pub rising : GroupsRise gs
 
 -- group g with one mark more
 abbrev pub with_mark : Group → Mark → Group

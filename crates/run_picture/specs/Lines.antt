@@ -1,6 +1,6 @@
 -- What the words of a line say, by its first word.
 use Rattle.std.specs.Prelude.{ℕ, ◌+◌, ◌==◌, Bool, List, [], ◌∷◌, codes, Option, Some, None, if◌then◌else◌}
-use Rattle.line_words.specs.Words.{number_of}
+use Rattle.line_words.specs.Words.{spelled_number}
 use Rattle.line_words.specs.Taking.{Rest, and_then, by_word, word, whole, long, short, counted}
 use Rattle.run_picture.specs.declared.report.Past.TheVariants as past_of
 use Rattle.run_picture.specs.declared.report.Fates.{Fates as FatesData}
@@ -17,8 +17,8 @@ dispatch now rest0 =
     and_then (subject rest2) (λ subject rest3.
     whole (Past (past_of.Dispatch now number handler subject)) rest3)))
 
-unfoldable pub refused : Rest → Option Line
-refused rest0 =
+unfoldable pub refused_line : Rest → Option Line
+refused_line rest0 =
     and_then (short rest0) (λ handler rest1.
     and_then (subject rest1) (λ subject rest2.
     and_then (counted (codes "quit") rest2) (λ place rest3.
@@ -39,8 +39,8 @@ fates_of rest0 =
 abbrev pub adds_up : FatesData → Bool
 adds_up f = f.accepted == f.dispatched + f.removed + f.dropped + f.stranded + f.queued
 
-unfoldable pub fates : Rest → Option Line
-fates rest = and_then (fates_of rest) (λ f more. if adds_up f then whole (Fates f) more else None)
+unfoldable pub fates_said : Rest → Option Line
+fates_said rest = and_then (fates_of rest) (λ f more. if adds_up f then whole (Fates f) more else None)
 
 unfoldable pub title : Rest → Option Line
 title rest =
@@ -58,11 +58,11 @@ two_short make rest = and_then (short rest) (λ a more. and_then (short more) (�
 -- what stands behind the first word of a line
 abbrev pub rows : List (List ℕ × (Rest → Option Line))
 rows =
-    (codes "refused", refused)
+    (codes "refused", refused_line)
     ∷ (codes "not-posted", one_long (λ token. Past (past_of.NotPosted token)))
     ∷ (codes "not-allowed", whole (Past past_of.NotAllowed))
     ∷ (codes "already-quit", one_long (λ place. Past (past_of.AlreadyQuit place)))
-    ∷ (codes "fates", fates)
+    ∷ (codes "fates", fates_said)
     ∷ (codes "idle", λ rest. and_then (short rest) (λ id more. whole (Act (act_of.Idle id)) more))
     ∷ (codes "event", two_short (λ fd events. Act (act_of.Event fd events)))
     ∷ (codes "paint", two_short (λ gauge value. Act (act_of.Paint gauge value)))
@@ -80,4 +80,4 @@ line_by w None rest = by_word rows w rest
 
 -- what the words of a line say
 unfoldable pub line_of : Rest → Option Line
-line_of ws = and_then (word ws) (λ w rest. line_by w (number_of w) rest)
+line_of ws = and_then (word ws) (λ w rest. line_by w (spelled_number w) rest)

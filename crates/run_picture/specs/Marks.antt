@@ -25,12 +25,12 @@ past_marks lane past_of.NotAllowed = []
 past_marks lane (past_of.AlreadyQuit place) = []
 
 -- the moment of a time in nanoseconds
-abbrev pub moment_of : ℕ → Moment
-moment_of t = record { millis = t / 1000000; nanos = t % 1000000 }
+abbrev pub split_moment : ℕ → Moment
+split_moment t = record { millis = t / 1000000; nanos = t % 1000000 }
 
 -- a mark at a time in nanoseconds
 abbrev pub frame_mark : ℕ → ℕ → Kind → Mark
-frame_mark lane t kind = record { lane = lane; time = moment_of t; kind = kind }
+frame_mark lane t kind = record { lane = lane; time = split_moment t; kind = kind }
 
 abbrev pub run_mark : ℕ → ℕ → RunData → List Mark
 run_mark lane t r = frame_mark lane t (Run r) ∷ []
@@ -69,8 +69,8 @@ paint_marks lane times g (act_of.Paint gauge value ∷ acts) =
     frame_mark lane (joined g times gauge).time (Paint gauge value) ∷ paint_marks lane times (joined g times gauge) acts
 
 -- behind the marks that were there, those of an act and of the acts behind it are those that are there now and those of the acts behind it
-abbrev pub GoesOn : ℕ → List ℕ → Painted → Painted → ActData → List Mark → List Mark → Type 0
-GoesOn lane times g h act before after = (acts : List ActData) → before ++ paint_marks lane times g (act ∷ acts) ≡ after ++ paint_marks lane times h acts
+abbrev pub MarksGoOn : ℕ → List ℕ → Painted → Painted → ActData → List Mark → List Mark → Type 0
+MarksGoOn lane times g h act before after = (acts : List ActData) → before ++ paint_marks lane times g (act ∷ acts) ≡ after ++ paint_marks lane times h acts
 
 -- the marks of one looper
 abbrev pub looper_marks : ℕ → Looper → List Mark

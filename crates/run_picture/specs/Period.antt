@@ -6,13 +6,13 @@ use Rattle.run_picture.specs.declared.report.Looper.{Looper}
 use Rattle.run_picture.specs.declared.report.Report.{Report}
 
 -- how far a frame at time u stands behind one at time t, where it stands behind it
-abbrev pub distance : ℕ → ℕ → List ℕ
-distance t u = if nat_lt t u then (u - t) ∷ [] else []
+abbrev pub frame_distance : ℕ → ℕ → List ℕ
+frame_distance t u = if nat_lt t u then (u - t) ∷ [] else []
 
 -- how far each frame stands behind the one before it, the first one behind time t
 abbrev pub distances_from : ℕ → List Frame → List ℕ
 distances_from t [] = []
-distances_from t (f ∷ fs) = distance t f.time ++ distances_from f.time fs
+distances_from t (f ∷ fs) = frame_distance t f.time ++ distances_from f.time fs
 
 -- how far each frame stands behind the one before it
 abbrev pub frame_distances : List Frame → List ℕ
@@ -28,9 +28,9 @@ lesser None n = Some n
 lesser (Some m) n = Some (min m n)
 
 -- the least of the numbers, where there are any
-abbrev pub least : List ℕ → Option ℕ
-least ns = fold lesser None ns
+abbrev pub least_number : List ℕ → Option ℕ
+least_number ns = fold lesser None ns
 
 -- the width of a frame in nanoseconds: the least distance of a frame from the one before it in its looper, or a sixtieth of a second
 abbrev pub period : Report → ℕ
-period r = unwrap_or (least (flat_map distances r.loopers)) 16666667
+period r = unwrap_or (least_number (flat_map distances r.loopers)) 16666667

@@ -5,7 +5,7 @@ use Rattle.run_picture.specs.declared.picture.Form.{Form}
 use Rattle.run_picture.specs.declared.picture.Form.TheVariants.{Svg, Perfetto}
 use Rattle.run_picture.specs.declared.picture.Picture.{Picture}
 use Rattle.run_picture.specs.declared.picture.Picture.TheVariants.{Text, Bad, NoMemory}
-use Rattle.run_picture.specs.Text.{IsText, IsLeastBad}
+use Rattle.run_picture.specs.Text.{IsReportText, IsLeastBadOfReport}
 use Rattle.run_picture.specs.Drawn.{Draws}
 use Rattle.run_picture.specs.Events.{Traces}
 
@@ -15,7 +15,7 @@ IsPictureOf (Svg v) r text = Draws v r text
 IsPictureOf Perfetto r text = Traces r text
 
 -- a picture is that of the report whose text the bytes are; a line is the least bad one
-abbrev pub Shows : Picture → Form → List ℕ → Type 0
-Shows (Text t) form b = (r : Report) × IsText b r × IsPictureOf form r t.items
-Shows (Bad k) form b = IsLeastBad b k
-Shows NoMemory form b = Unit {0}
+abbrev pub DrawsReport : Picture → Form → List ℕ → Type 0
+DrawsReport (Text t) form b = (r : Report) × IsReportText b r × IsPictureOf form r t.items
+DrawsReport (Bad k) form b = IsLeastBadOfReport b k
+DrawsReport NoMemory form b = Unit {0}

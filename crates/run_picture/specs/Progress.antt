@@ -98,16 +98,16 @@ after_part part_of.End d l = None
 unfoldable pub next : Draft → Line → Option Draft
 next d l = after_part d.part d l
 
-abbrev pub is_end : Part → Bool
-is_end part_of.End = true
-is_end _ = false
+abbrev pub is_report_end : Part → Bool
+is_report_end part_of.End = true
+is_report_end _ = false
 
 abbrev pub report_of : Draft → Report
 report_of d = record { edition = d.edition; loopers = d.loopers }
 
 -- how the lines of a report are read
 abbrev pub reading : Reading Line Draft Report
-reading = record { start = start; line_of = λ bytes. line_of (words bytes); next = next; is_end = λ d. is_end d.part; whole = report_of }
+reading = record { start = start; line_of = λ bytes. line_of (words bytes); next = next; is_end = λ d. is_report_end d.part; whole = report_of }
 
 -- the language of reports
 abbrev pub reports : Language Line Draft Report (Unit {0})

@@ -2,7 +2,7 @@
 use Rattle.std.specs.Prelude.{ℕ, ◌^◌, List, codes, Option, Some, None, if◌then◌else◌}
 use Rattle.std.specs.Option.{option_map}
 use Rattle.std.specs.Str.{bytes_eq}
-use Rattle.line_words.specs.Words.{number_of}
+use Rattle.line_words.specs.Words.{spelled_number}
 use Rattle.line_words.specs.Taking.{Rest, read, and_then, word, below, long}
 use Rattle.run_picture.specs.declared.report.Subject.{Subject}
 use Rattle.run_picture.specs.declared.report.Subject.TheVariants.{What, Callback}
@@ -18,4 +18,4 @@ subject_by w None rest = callback w rest
 
 -- a message by its what, or by its callback
 unfoldable pub subject : Rest → Option (Subject × Rest)
-subject rest = and_then (word rest) (λ w more. subject_by w (number_of w) more)
+subject rest = and_then (word rest) (λ w more. subject_by w (spelled_number w) more)

@@ -39,9 +39,9 @@ value (kind_of.Run r) = 0
 value (kind_of.Paint gauge v) = v
 
 -- the value of the last of the marks, or else this one
-abbrev pub last_value : ℕ → List Mark → ℕ
-last_value v [] = v
-last_value v (m ∷ ms) = last_value (value m.kind) ms
+abbrev pub last_painted : ℕ → List Mark → ℕ
+last_painted v [] = v
+last_painted v (m ∷ ms) = last_painted (value m.kind) ms
 
 -- how many pixels a value stands below its row's upper edge, where this is the greatest value that a row shows
 abbrev pub depth : ℕ → ℕ → ℕ
@@ -52,4 +52,4 @@ abbrev pub level : ℕ → Shelf → Group → Row → ℕ
 level most s g (Handler h) = s.top
 level most s g Frames = s.top
 level most s g Runs = s.top
-level most s g (Gauge n) = saturated (s.top + depth most (last_value 0 g.marks))
+level most s g (Gauge n) = saturated (s.top + depth most (last_painted 0 g.marks))

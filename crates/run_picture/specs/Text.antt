@@ -2,9 +2,9 @@
 use Rattle.std.specs.Prelude.{◌≡◌, ◌⊎◌, ℕ, ◌+◌, List, [], ◌∷◌, ◌++◌, codes, map}
 use Rattle.std.specs.List.{flat_map, AllByRecursion}
 use Rattle.std.specs.Fmt.{decimal}
-use Rattle.line_words.specs.Words.{Words, line}
+use Rattle.line_words.specs.Words.{LineWords, line}
 pub use Rattle.line_words.specs.Words.{IsShort, IsLong}
-use Rattle.line_words.specs.LeastBad.{IsLeastBad as IsLeastBadOf}
+use Rattle.line_words.specs.LeastBad.{IsLeastBad}
 use Rattle.run_picture.specs.declared.report.Subject.{Subject}
 use Rattle.run_picture.specs.declared.report.Subject.TheVariants.{What, Callback}
 use Rattle.run_picture.specs.declared.report.Past.{Past as PastData}
@@ -21,36 +21,36 @@ use Rattle.run_picture.specs.declared.line.Line.TheVariants.{Title, Looper, Past
 -- ---- the words of a line
 
 -- a message by its what, or by its callback
-abbrev pub subject_words : Subject → Words
+abbrev pub subject_words : Subject → LineWords
 subject_words (What w) = decimal w ∷ []
 subject_words (Callback c) = codes "callback" ∷ decimal c ∷ []
 
-abbrev pub past_words : PastData → Words
+abbrev pub past_words : PastData → LineWords
 past_words (Dispatch now number handler subject) = decimal now ∷ codes "dispatch" ∷ decimal number ∷ decimal handler ∷ subject_words subject
 past_words (Refused handler subject place) = codes "refused" ∷ decimal handler ∷ subject_words subject ++ codes "quit" ∷ decimal place ∷ []
 past_words (NotPosted token) = codes "not-posted" ∷ decimal token ∷ []
 past_words NotAllowed = codes "not-allowed" ∷ []
 past_words (AlreadyQuit place) = codes "already-quit" ∷ decimal place ∷ []
 
-abbrev pub fates_words : FatesData → Words
+abbrev pub fates_words : FatesData → LineWords
 fates_words f =
     codes "fates" ∷ codes "accepted" ∷ decimal f.accepted ∷ codes "dispatched" ∷ decimal f.dispatched ∷ codes "removed" ∷ decimal f.removed
     ∷ codes "dropped" ∷ decimal f.dropped ∷ codes "stranded" ∷ decimal f.stranded ∷ codes "queued" ∷ decimal f.queued ∷ []
 
-abbrev pub act_words : ActData → Words
+abbrev pub act_words : ActData → LineWords
 act_words (Idle id) = codes "idle" ∷ decimal id ∷ []
 act_words (Event fd events) = codes "event" ∷ decimal fd ∷ decimal events ∷ []
 act_words (Paint gauge value) = codes "paint" ∷ decimal gauge ∷ decimal value ∷ []
 
-abbrev pub line_words : Line → Words
-line_words (Title edition) = codes "report" ∷ decimal edition ∷ []
-line_words (Looper number) = codes "looper" ∷ decimal number ∷ []
-line_words (Past p) = past_words p
-line_words (Fates f) = fates_words f
-line_words (Act a) = act_words a
-line_words (Frame time) = codes "frame" ∷ decimal time ∷ []
-line_words (Run r) = codes "run" ∷ decimal r.phase ∷ decimal r.id ∷ []
-line_words End = codes "end" ∷ []
+abbrev pub picture_line_words : Line → LineWords
+picture_line_words (Title edition) = codes "report" ∷ decimal edition ∷ []
+picture_line_words (Looper number) = codes "looper" ∷ decimal number ∷ []
+picture_line_words (Past p) = past_words p
+picture_line_words (Fates f) = fates_words f
+picture_line_words (Act a) = act_words a
+picture_line_words (Frame time) = codes "frame" ∷ decimal time ∷ []
+picture_line_words (Run r) = codes "run" ∷ decimal r.phase ∷ decimal r.id ∷ []
+picture_line_words End = codes "end" ∷ []
 
 -- ---- the limits of the numbers
 
@@ -78,46 +78,46 @@ FitsAct (Event fd events) = IsShort fd × IsShort events
 FitsAct (Paint gauge value) = IsShort gauge × IsShort value
 
 -- each number of the line is within its own limits
-abbrev pub Fits : Line → Type 0
-Fits (Title edition) = (edition ≡ 1) ⊎ (edition ≡ 2)
-Fits (Looper number) = IsLong number
-Fits (Past p) = FitsPast p
-Fits (Fates f) = FitsFates f
-Fits (Act a) = FitsAct a
-Fits (Frame time) = IsLong time
-Fits (Run r) = IsShort r.phase × IsLong r.id
-Fits End = Unit {0}
+abbrev pub FitsReportLine : Line → Type 0
+FitsReportLine (Title edition) = (edition ≡ 1) ⊎ (edition ≡ 2)
+FitsReportLine (Looper number) = IsLong number
+FitsReportLine (Past p) = FitsPast p
+FitsReportLine (Fates f) = FitsFates f
+FitsReportLine (Act a) = FitsAct a
+FitsReportLine (Frame time) = IsLong time
+FitsReportLine (Run r) = IsShort r.phase × IsLong r.id
+FitsReportLine End = Unit {0}
 
 -- ---- the lines of a report
 
 -- the line of a frame, and one for each callback that ran in it
-abbrev pub frame_lines : FrameData → List Line
-frame_lines f = Frame f.time ∷ map Run f.runs
+abbrev pub picture_frame_lines : FrameData → List Line
+picture_frame_lines f = Frame f.time ∷ map Run f.runs
 
 -- the lines of the looper with this number
-abbrev pub looper_lines : ℕ → LooperData → List Line
-looper_lines n l = Looper n ∷ map Past l.past ++ Fates l.fates ∷ map Act l.acts ++ flat_map frame_lines l.frames
+abbrev pub picture_looper_lines : ℕ → LooperData → List Line
+picture_looper_lines n l = Looper n ∷ map Past l.past ++ Fates l.fates ∷ map Act l.acts ++ flat_map picture_frame_lines l.frames
 
 -- the lines of loopers that are numbered from n on
-abbrev pub loopers_lines : ℕ → List LooperData → List Line
-loopers_lines n [] = []
-loopers_lines n (l ∷ ls) = looper_lines n l ++ loopers_lines (n + 1) ls
+abbrev pub picture_loopers_lines : ℕ → List LooperData → List Line
+picture_loopers_lines n [] = []
+picture_loopers_lines n (l ∷ ls) = picture_looper_lines n l ++ picture_loopers_lines (n + 1) ls
 
-abbrev pub lines : Report → List Line
-lines r = (Title r.edition ∷ loopers_lines 0 r.loopers) ++ End ∷ []
+abbrev pub picture_lines : Report → List Line
+picture_lines r = (Title r.edition ∷ picture_loopers_lines 0 r.loopers) ++ End ∷ []
 
 -- how a line is written
-unfoldable pub line_text : Line → List ℕ
-line_text l = line (line_words l)
+unfoldable pub picture_line_text : Line → List ℕ
+picture_line_text l = line (picture_line_words l)
 
 -- the text of a report
-abbrev pub text : Report → List ℕ
-text r = flat_map line_text (lines r)
+abbrev pub picture_text : Report → List ℕ
+picture_text r = flat_map picture_line_text (picture_lines r)
 
 -- b is the text of r, whose numbers are within their limits
-abbrev pub IsText : List ℕ → Report → Type 0
-IsText b r = (b ≡ text r) × AllByRecursion Fits (lines r)
+abbrev pub IsReportText : List ℕ → Report → Type 0
+IsReportText b r = (b ≡ picture_text r) × AllByRecursion FitsReportLine (picture_lines r)
 
 -- this is the least bad line of a text that is the text of no report
-abbrev pub IsLeastBad : List ℕ → ℕ → Type 0
-IsLeastBad b k = IsLeastBadOf IsText b k
+abbrev pub IsLeastBadOfReport : List ℕ → ℕ → Type 0
+IsLeastBadOfReport b k = IsLeastBad IsReportText b k

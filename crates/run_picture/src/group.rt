@@ -2,7 +2,7 @@
 ghost use Rattle.std.specs.Prelude.{◌≡◌, ◌↔◌, ◌<◌, ◌≤◌, ◌^◌, ◌∷◌, IfOk, IsPermutation, IsTrue, OnOk};
 ghost use Rattle.std.specs.List.{flat_map, AllByRecursion};
 ghost use Rattle.std.specs.List.Sorted.{IsSortedByKey};
-ghost use Rattle.run_picture.specs.Groups.{AreCut, HasMarks, IsOfPlace, KeepOrder, Rise, begun, column, key, marks_of, nanos, number, order, pixels, place, rank, row_of, shift, with_mark};
+ghost use Rattle.run_picture.specs.Groups.{AreCut, HasMarks, IsOfPlace, KeepOrder, GroupsRise, begun, column, key, marks_of, nanos, number, order, pixels, place, rank, mark_row, shift, with_mark};
 
 use crate::mark::{Kind, Mark, Moment, NANOS_PER_MILLI};
 use loop_model::{NoMemory, Sequence};
@@ -66,7 +66,7 @@ pub(crate) fn nanos(moment: Moment) -> u128
 
 /// The row of a mark.
 pub(crate) fn row_of(kind: Kind) -> Row
-    ensures { result ≡ row_of kind }
+    ensures { result ≡ mark_row kind }
 {
     match kind {
         Kind::Dispatch { handler, .. } => Row::Handler(handler),
@@ -241,7 +241,7 @@ pub fn groups(alloc: Global, scale: Scale, marks: Vec<Mark>) -> Result<Vec<Group
     ensures all { IfOk result (λ found. IsPermutation marks.items (flat_map marks_of found.items)) }
     ensures places { IfOk result (λ found. AllByRecursion (IsOfPlace scale) found.items) }
     ensures marked { IfOk result (λ found. AllByRecursion HasMarks found.items) }
-    ensures rising { IfOk result (λ found. Rise found.items) }
+    ensures rising { IfOk result (λ found. GroupsRise found.items) }
     ensures ordered { IfOk result (λ found. KeepOrder scale marks.items (flat_map marks_of found.items)) }
 {
     let marks = sorted(scale, marks)?;

@@ -52,9 +52,9 @@ fn dispatch(now: u64, words: &mut Words) -> Option<Line>
     }))
 }
 
-#[tactic(auto, unfolding(crate::specs::Lines::refused))]
+#[tactic(auto, unfolding(crate::specs::Lines::refused_line))]
 fn refused(words: &mut Words) -> Option<Line>
-    ensures { result ≡ says.refused words.old }
+    ensures { result ≡ says.refused_line words.old }
 {
     let handler = words.short()?;
     let subject = subject(words)?;
@@ -99,9 +99,9 @@ fn adds_up(fates: &Fates) -> bool
     u128::from(fates.accepted) == sum
 }
 
-#[tactic(auto, unfolding(crate::specs::Lines::fates))]
+#[tactic(auto, unfolding(crate::specs::Lines::fates_said))]
 fn fates(words: &mut Words) -> Option<Line>
-    ensures { result ≡ says.fates words.old }
+    ensures { result ≡ says.fates_said words.old }
 {
     let fates = fates_of(words)?;
     if adds_up(&fates) {

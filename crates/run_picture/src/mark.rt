@@ -1,7 +1,7 @@
 //! The marks of a report's picture.
 ghost use Rattle.std.specs.Prelude.{◌≡◌, ◌+◌, ◌-◌, ◌<◌, ◌≤◌, ◌^◌, ◌++◌, IfOk, OnOk};
 ghost use Rattle.std.specs.List.{flat_map};
-ghost use Rattle.run_picture.specs.Marks.{GoesOn, frame_mark, frame_marks, is_painting, joined, looper_marks, marks, marks_from, moment_of, no_paint, paint_marks, painting_times, past_marks, run_mark};
+ghost use Rattle.run_picture.specs.Marks.{MarksGoOn, frame_mark, frame_marks, is_painting, joined, looper_marks, marks, marks_from, split_moment, no_paint, paint_marks, painting_times, past_marks, run_mark};
 
 use crate::report::{Act, Frame, Looper, Past, Report, Run, Subject};
 use loop_model::NoMemory;
@@ -70,7 +70,7 @@ const NO_PAINT: Painted = Painted {
 
 /// The moment of a time in nanoseconds.
 pub(crate) fn moment_of(time: u64) -> Moment
-    ensures { result ≡ moment_of time }
+    ensures { result ≡ split_moment time }
 {
     Moment {
         millis: time / NANOS_PER_MILLI,
@@ -217,7 +217,7 @@ fn push_act(
 ) -> Result<(), NoMemory>
     requires { group.old.place < 2 ^ 64 - 1 }
     ensures near { OnOk result (group.new.place ≤ group.old.place + 1) }
-    ensures painted { OnOk result (GoesOn lane times.now group.old group.new act out.old.items out.new.items) }
+    ensures painted { OnOk result (MarksGoOn lane times.now group.old group.new act out.old.items out.new.items) }
 {
     match act {
         Act::Paint { gauge, value } => {

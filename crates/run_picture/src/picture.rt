@@ -1,6 +1,6 @@
 //! The picture of a text.
 ghost use Rattle.std.specs.Prelude.{IfOk};
-ghost use Rattle.run_picture.specs.Picture.{IsPictureOf, Shows};
+ghost use Rattle.run_picture.specs.Picture.{IsPictureOf, DrawsReport};
 
 use crate::perfetto::perfetto_text;
 use crate::reader::parse_report;
@@ -43,7 +43,7 @@ fn drawn(alloc: Global, form: Form, title: &[u8], report: &Report) -> Result<Vec
 /// The picture of the report that a text spells, or the text's least bad line. An SVG has this title, and a trace has none.
 /// `NoMemory` where there was none.
 pub fn picture_of(alloc: Global, form: Form, title: &[u8], bytes: &[u8]) -> Picture
-    ensures { Shows result form bytes.now }
+    ensures { DrawsReport result form bytes.now }
 {
     match parse_report(alloc, bytes) {
         ParsedReport::Ok(report) => match drawn(alloc, form, title, &report) {

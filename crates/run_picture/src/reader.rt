@@ -1,6 +1,6 @@
 //! The report of a text.
 ghost use Rattle.line_words.specs.Answers.{Finds, FindsAll, Names};
-ghost use Rattle.run_picture.specs.Text.{IsLeastBad, IsText};
+ghost use Rattle.run_picture.specs.Text.{IsLeastBadOfReport, IsReportText};
 ghost use Rattle.run_picture.specs.declared.report.ParsedReport.TheVariants as parsed;
 
 use crate::draft::Draft;
@@ -12,9 +12,9 @@ use std::alloc::Global;
 /// lines up to it begin the text of no report. Where the text stops early it is the line behind its last one. `NoMemory`
 /// where there was none. Reading is one pass.
 pub fn parse_report(alloc: Global, bytes: &[u8]) -> ParsedReport
-    ensures found { Finds parsed.Ok IsText result bytes.now }
-    ensures only { FindsAll parsed.Ok parsed.NoMemory IsText result bytes.now }
-    ensures refused { Names parsed.Bad IsLeastBad result bytes.now }
+    ensures found { Finds parsed.Ok IsReportText result bytes.now }
+    ensures only { FindsAll parsed.Ok parsed.NoMemory IsReportText result bytes.now }
+    ensures refused { Names parsed.Bad IsLeastBadOfReport result bytes.now }
 {
     match read_lines::<Draft>(alloc, bytes) {
         Ok(report) => ParsedReport::Ok(report),

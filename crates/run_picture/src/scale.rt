@@ -1,9 +1,9 @@
 //! How a report's time fits the picture's width.
 ghost use Rattle.std.specs.Prelude.{◌≡◌, ◌≤◌, ◌-◌, ◌*◌, length};
 ghost use Rattle.std.specs.List.{AllByRecursion, fold};
-ghost use Rattle.run_picture.specs.Groups.{IsBetween, Shows};
+ghost use Rattle.run_picture.specs.Groups.{IsBetween, ShowsTime};
 ghost use Rattle.run_picture.specs.View.{HasEdgesOf, IsSeen};
-ghost use Rattle.run_picture.specs.Period.{distance, distances, lesser, period};
+ghost use Rattle.run_picture.specs.Period.{frame_distance, distances, lesser, period};
 
 use crate::group::{Row, Scale, nanos, row_of};
 use crate::mark::{Mark, NANOS_PER_MILLI};
@@ -27,7 +27,7 @@ fn lesser(least: Option<u64>, number: u64) -> Option<u64>
 
 /// The least distance so far, with that of a time from the one before it, where it stands behind it.
 fn nearer(least: Option<u64>, before: u64, time: u64) -> Option<u64>
-    ensures { result ≡ fold lesser least (distance before time) }
+    ensures { result ≡ fold lesser least (frame_distance before time) }
 {
     if before < time {
         return lesser(least, time - before);
@@ -130,7 +130,7 @@ fn scale_within(window: Window, width: u32) -> Scale
 
 /// The scale of a whole run: behind its last mark a frame has its width.
 fn scale_around(marks: &[Mark], width: u32, period: u128) -> Scale
-    ensures shown { AllByRecursion (Shows result) marks.now }
+    ensures shown { AllByRecursion (ShowsTime result) marks.now }
     ensures width { result.width ≡ width }
 {
     let (first, last) = bounds(marks);
@@ -147,7 +147,7 @@ fn scale_around(marks: &[Mark], width: u32, period: u128) -> Scale
 /// The edges of a picture, before it is known how wide a place is.
 fn edges(marks: &[Mark], view: View, period: u128) -> Scale
     requires { AllByRecursion (IsSeen view.window) marks.now }
-    ensures shown { AllByRecursion (Shows result) marks.now }
+    ensures shown { AllByRecursion (ShowsTime result) marks.now }
     ensures edges { HasEdgesOf view.window result }
     ensures wide { result.width ≡ view.width - 174 }
 {
@@ -170,7 +170,7 @@ fn step_of(marks: &[Mark], width: u32) -> u64
 /// The scale of a picture, by its marks, the width of a frame in nanoseconds, and the number of phases.
 pub(crate) fn scale_of(marks: &[Mark], view: View, period: u128, phases: u64) -> Scale
     requires { AllByRecursion (IsSeen view.window) marks.now }
-    ensures shown { AllByRecursion (Shows result) marks.now }
+    ensures shown { AllByRecursion (ShowsTime result) marks.now }
     ensures edges { HasEdgesOf view.window result }
     ensures wide { result.width ≡ view.width - 174 }
     ensures fine { length marks.now ≤ 4000 → result.step ≡ 1 }

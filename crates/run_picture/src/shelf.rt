@@ -1,6 +1,6 @@
 //! How high the groups of a picture stand.
 ghost use Rattle.std.specs.Prelude.{◌≡◌, ◌∷◌};
-ghost use Rattle.run_picture.specs.Rows.{IsRowOf, StandsBehind, depth, last_value, level, shared, value};
+ghost use Rattle.run_picture.specs.Rows.{IsRowOf, StandsBehind, depth, last_painted, level, shared, value};
 
 use crate::group::{Group, Row};
 use crate::mark::{Kind, Mark};
@@ -74,7 +74,7 @@ fn value(kind: Kind) -> u32
 
 /// The value that a group paints last, at which its gauge stands from there on.
 pub(crate) fn value_of(group: &Group) -> u32
-    ensures { result ≡ last_value 0 group.now.marks }
+    ensures { result ≡ last_painted 0 group.now.marks }
 {
     let mut last = 0;
     for mark in group.marks.as_slice() {

@@ -14,7 +14,7 @@ use Rattle.loop_model.specs.declared.reply.Reply.{Reply}
 use Rattle.loop_model.specs.declared.reply.Reply.TheVariants.{Accepted, Refused, Token, Unbarriered, NotPosted, Removed, QuitDone, AlreadyQuit, NotAllowed, Dispatched, Disposed, Advanced, Halted}
 use Rattle.loop_model.specs.declared.entry.Entry.{Entry}
 use Rattle.loop_model.specs.declared.item.Item.{Item}
-use Rattle.loop_model.specs.declared.item.Item.TheVariants.{Post as Message, Barrier as Fence}
+use Rattle.loop_model.specs.declared.item.Item.TheVariants.{Post as Message, Barrier as SyncBarrier}
 use Rattle.loop_model.specs.declared.base.Base.{Base}
 use Rattle.loop_model.specs.declared.post.Post.{Post as PostData}
 use Rattle.loop_model.specs.declared.post.Filter.{Filter}
@@ -29,7 +29,7 @@ use Rattle.loop_model.proofs.Prefixes.{prefix_front}
 use Rattle.loop_model.proofs.WellFormedLaws.{All_recursive}
 use Rattle.when_queue.proofs.Lists.{filter_none}
 use Rattle.when_queue.specs.Queue.{items_of}
-use Rattle.message_slot.specs.Letter.{Letter, post_of, with_number, numbered}
+use Rattle.message_slot.specs.Letter.{Letter, post_of, letter_with_number, numbered}
 use Rattle.queue_state.specs.declared.answers.Posted.{Posted}
 use Rattle.queue_state.specs.declared.answers.Posted.TheVariants as posted
 use Rattle.queue_state.specs.declared.answers.Nexted.{Nexted}
@@ -52,7 +52,7 @@ use Rattle.queue_state.specs.Queue.{Queue, entry_of, moment_at, sealed}
 use Rattle.queue_state.specs.Calls.{Posts, PostsBarrier, Unbars, Takes, Quits, Looks, Advances, Halts}
 use Rattle.shared_queue.specs.Whole.{Leave, whole_queue}
 use Rattle.shared_queue.specs.Constants.{Constants}
-use Rattle.shared_queue.specs.Turn.{IsFirst}
+use Rattle.shared_queue.specs.Turn.{IsFreshState}
 use Rattle.shared_queue.specs.Claims.{IsAsAccepted, claims_at, claims_with, AreClaims, ClaimsGoOn, AcceptsClaim, LooksAsAccepted, TakesAsAccepted, QuitsAsAccepted}
 use Rattle.shared_queue.proofs.Whole.{rest}
 
@@ -88,7 +88,7 @@ is_none false h = refl
 -- a message is numbered
 numbered_is : (n : ℕ) (x : Item) → is_barrier x ≡ false → number_of (numbered n x) ≡ Some n
 numbered_is n (Message k p) e = refl
-numbered_is n (Fence t w) e = let wrong : true ≡ false = e in absurd (cc)
+numbered_is n (SyncBarrier t w) e = let wrong : true ≡ false = e in absurd (cc)
 
 -- an accepted post has the number that comes next
 next_of : (q : Option ℕ) (k n : ℕ) → Some (post_reply q k) ≡ Some (Accepted n) → n ≡ k
@@ -197,22 +197,22 @@ module _ {H K : Type 0} where
     with_left c r none p = by_entry c r (left c r x.messages) none p (λ cs all. All-filter (λ (m : Letter K). not (ends_by c r m.item)) (IsAsAccepted cs) x.messages all)
 
     -- an accepted post brings its claim
-    pub brings : (n : ℕ) (m : Letter K) (cs : List (Option K)) → is_barrier m.item ≡ false → AreClaims cs x → n ≡ accepted_count x.start x.entries → (i : ℕ) → y.messages ≡ insert x.messages i (with_number n m) → claims_with cs y.messages ≡ cs ++ m.claim ∷ []
+    pub brings : (n : ℕ) (m : Letter K) (cs : List (Option K)) → is_barrier m.item ≡ false → AreClaims cs x → n ≡ accepted_count x.start x.entries → (i : ℕ) → y.messages ≡ insert x.messages i (letter_with_number n m) → claims_with cs y.messages ≡ cs ++ m.claim ∷ []
     brings n m cs target a next i is =
-        let number : number_of (with_number n m).item ≡ Some (length cs) = numbered_is n m.item target ∙ ap (λ (k : ℕ). Some k) (next ∙ sym a.count) in
-        ap (claims_with cs) is ∙ one_next cs x.messages i (with_number n m) a.each number
+        let number : number_of (letter_with_number n m).item ≡ Some (length cs) = numbered_is n m.item target ∙ ap (λ (k : ℕ). Some k) (next ∙ sym a.count) in
+        ap (claims_with cs) is ∙ one_next cs x.messages i (letter_with_number n m) a.each number
 
     with_post : (n : ℕ) (m : Letter K) (i : ℕ) → is_barrier m.item ≡ false → n ≡ accepted_count x.start x.entries
-        → Parts y x.start (x.entries ++ entry_of x s (Post (post_of m.item)) (Accepted n) ∷ []) (insert x.messages i (with_number n m)) → KeepsClaims x y
+        → Parts y x.start (x.entries ++ entry_of x s (Post (post_of m.item)) (Accepted n) ∷ []) (insert x.messages i (letter_with_number n m)) → KeepsClaims x y
     with_post n m i target next p cs a =
-        let number : number_of (with_number n m).item ≡ Some (length cs) = numbered_is n m.item target ∙ ap (λ (k : ℕ). Some k) (next ∙ sym a.count) in
+        let number : number_of (letter_with_number n m).item ≡ Some (length cs) = numbered_is n m.item target ∙ ap (λ (k : ℕ). Some k) (next ∙ sym a.count) in
         let ds : List (Option K) = cs ++ m.claim ∷ [] in
         let e : Entry = entry_of x s (Post (post_of m.item)) (Accepted n) in
         let more : accepted_count x.start (x.entries ++ e ∷ []) ≡ accepted_count x.start x.entries + 1 = accepted_count-snoc x.start x.entries e in
         let count : length ds ≡ accepted_count x.start (x.entries ++ e ∷ []) = omega (arith, length-append cs (m.claim ∷ []), more, a.count) in
         subst (λ l. AreClaims l y) (sym (brings n m cs target a next i p.2)) (record {
           count = count ∙ (λ j. accepted_count (sym p.0 j) (sym p.1 j));
-          each = subst (All (IsAsAccepted ds)) (sym p.2) (claimed_by_all cs x.messages i (with_number n m) a.each number);
+          each = subst (All (IsAsAccepted ds)) (sym p.2) (claimed_by_all cs x.messages i (letter_with_number n m) a.each number);
         })
 
     pub keeps_posts : (m : Letter K) (r : Posted K H) → is_barrier m.item ≡ false → Posts x s m r y → KeepsClaims x y
@@ -227,7 +227,7 @@ module _ {H K : Type 0} where
         (All-cons (IsAsAccepted cs) (as_barrier t at m) (drop i x.messages) (λ n e. absurd (cc (e))) (All-drop (IsAsAccepted cs) i x.messages all)))
 
     pub keeps_barriers : (now : ℕ) (m : Letter K) (r : BarrierPosted K H) → PostsBarrier x s now m r y → KeepsClaims x y
-    keeps_barriers now m (barred.Token t) p = with_barrier t (moment_at x now) (slot_of (Fence t (moment_at x now)) (items_of x.messages)) m (parts y _ p.1)
+    keeps_barriers now m (barred.Token t) p = with_barrier t (moment_at x now) (slot_of (SyncBarrier t (moment_at x now)) (items_of x.messages)) m (parts y _ p.1)
     keeps_barriers now m (barred.NoMemory node) p = keeps_found x y p.1
 
     pub keeps_unbars : (t : ℕ) (r : BarrierGone K H) → Unbars x s t r y → KeepsClaims x y
@@ -317,7 +317,7 @@ module _ {H K : Type 0} where
     quits_claimed safe now quitting.NoMemory p = tt
 
 -- a state to which nothing has happened has none
-pub no_claims : {H K : Type 0} (key : Constants H) (x : Queue H K) → IsFirst key x → AreClaims [] x
+pub no_claims : {H K : Type 0} (key : Constants H) (x : Queue H K) → IsFreshState key x → AreClaims [] x
 no_claims key x first = record {
   count = sym (accepted_none (empty_base key.setting.senders)) ∙ (λ i. accepted_count (sym first.own.start i) (sym first.entries i));
   each = subst (All (IsAsAccepted [])) (sym first.messages) (All-nil (IsAsAccepted []));

@@ -21,7 +21,7 @@ use Rattle.shared_queue.specs.Claims.{IsAsAccepted, AreClaims}
 use Rattle.shared_queue.specs.Turn.{ArePast, Counts, holds, Fits, AtHome, QueueTurn}
 use Rattle.shared_queue.specs.Plays.{Sat}
 use Rattle.shared_queue.specs.Known.{Shared, Known, KeepsNone, IsOf}
-use Rattle.shared_queue.specs.Ends.{AreInOrder, HasCalls, BeginClaims, AreLeftAsAccepted, number_of, HaveSealed, sealed_by, Gathered, IsSoundEnd, IsLeftBy, IsLast, IsWholeEnd}
+use Rattle.shared_queue.specs.Ends.{AreInOrder, HasCalls, BeginClaims, AreLeftAsAccepted, as_counted, HaveSealed, sealed_by, Gathered, IsSoundEnd, IsLeftBy, IsLast, IsWholeEnd}
 use Rattle.loop_model.proofs.Prefixes.{prefix_trans}
 use Rattle.shared_queue.proofs.Courses.{entries_more, chain_more}
 use Rattle.shared_queue.proofs.Whole.{whole_sound}
@@ -50,14 +50,14 @@ pub record Closes {H K : Type 0} (key : Constants H) (posters : List (Known H K)
   pub claims : (claims : List (Option K)) × BeginClaims claims posters × AreClaims claims x
 
 module _ {H K : Type 0} (key : Constants H) (q : Shared H) (posters : List (Known H K)) (m : Sat H K) (is_key : q.constants ≡ key) (some_sender : 0 < key.setting.senders) (all : length posters ≡ key.setting.senders) (order : AreInOrder q posters) (g : Gathered q posters m) where
-  numbers : (k : ℕ) (d : Known H K) → k < length posters → get_or m.0.senders k (number_of d) ≡ number_of (get_or posters k d)
-  numbers k d l = ap (λ (ps : List (ℕ × ℕ)). get_or ps k (number_of d)) g.1 ∙ get_or-map number_of posters k d (number_of d) l
+  numbers : (k : ℕ) (d : Known H K) → k < length posters → get_or m.0.senders k (as_counted d) ≡ as_counted (get_or posters k d)
+  numbers k d l = ap (λ (ps : List (ℕ × ℕ)). get_or ps k (as_counted d)) g.1 ∙ get_or-map as_counted posters k d (as_counted d) l
 
   as_many : length m.0.senders ≡ length posters
-  as_many = ap length g.1 ∙ length-map posters number_of
+  as_many = ap length g.1 ∙ length-map posters as_counted
 
   has_all : (n : ℕ) (d : Known H K) → n < key.setting.senders → 0 < holds n m.0
-  has_all n d below = holds_at n m.0.senders n (number_of d) (omega (arith, as_many)) (ap (λ (p : ℕ × ℕ). p.0) (numbers n d (omega arith)) ∙ (order n d (omega arith)).1)
+  has_all n d below = holds_at n m.0.senders n (as_counted d) (omega (arith, as_many)) (ap (λ (p : ℕ × ℕ). p.0) (numbers n d (omega arith)) ∙ (order n d (omega arith)).1)
 
   pub closes : (id : ℕ) (words : List ℕ) (slots : List (Option (Queue H K))) → Final (Seen (QueueTurn key) id m.0) words slots
       → (x : Queue H K) × (get_elem? slots 0 ≡ some (Some x)) × IsLast key posters x
@@ -81,7 +81,7 @@ module _ {H K : Type 0} (key : Constants H) (q : Shared H) (posters : List (Know
           start = home.3.0 ∙ ap (λ (ps : List Segment). after (empty_base key.setting.senders) (entries_of ps)) these;
           calls = λ k e l.
               let p : Known H K = get_or posters k e in
-              let c : Counts (whole_of r.course) m.0.seen (number_of p) = subst (Counts (whole_of r.course) m.0.seen) (numbers k e l) (f.mine k (number_of e) (omega (arith, as_many))) in (
+              let c : Counts (whole_of r.course) m.0.seen (as_counted p) = subst (Counts (whole_of r.course) m.0.seen) (numbers k e l) (f.mine k (as_counted e) (omega (arith, as_many))) in (
                 subst (IsPrefix p.view.seen) whole (prefix_trans p.view.seen m.0.seen (whole_of r.course) (g.2 k e l) f.seen),
                 ap (made_in p.sender) (sym whole) ∙ c.0,
               );

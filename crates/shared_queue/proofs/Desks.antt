@@ -10,9 +10,9 @@ use Rattle.shared_queue.specs.declared.desk.Desk.{Desk}
 use Rattle.loop_model.specs.Lists.{total}
 use Rattle.shared_queue.specs.Constants.{Constants, last_of, made_in}
 use Rattle.shared_queue.specs.Turn.{holds, counted, seen_with, giving, handing}
-use Rattle.shared_queue.specs.Plays.{Sat, IsCounted}
+use Rattle.shared_queue.specs.Plays.{Sat, IsCountedSender}
 use Rattle.shared_queue.specs.Known.{StepsBy}
-use Rattle.shared_queue.specs.Seats.{HasTaken}
+use Rattle.shared_queue.specs.Seats.{HasTakenTurn}
 use Rattle.shared_queue.specs.Desk.{Counted, IsIdle, IsSameDesk, Began, MayEnd, Ended, MayHandOver, HandedOver}
 use Rattle.shared_queue.specs.Claims.{AreClaims, claims_with}
 use Rattle.shared_queue.proofs.Claims.{KeepsClaims}
@@ -38,9 +38,9 @@ pub still_unsealed : {H K : Type 0} (d e : Desk (Queue H K) H K) → Counted d �
 still_unsealed d e counts sender constants sealed_same c is apart = sealed_same ∙ counts.unsealed c (sym constants ∙ is) (λ last. apart (ap (λ n. n + 1) sender ∙ last))
 
 module _ {H K : Type 0} (key : Constants H) (d e : Desk (Queue H K) H K) where
-  pub begins : (x : Queue H K) → d.seat.me.0.constants ≡ Some key → IsIdle d → IsSameDesk d e → HasTaken key d.seat.me e.seat.me x → IsSound x → e.made ≡ d.made → e.seen ≡ x.start.length + length x.entries → e.heard ≡ d.heard → Began key d e x
+  pub begins : (x : Queue H K) → d.seat.me.0.constants ≡ Some key → IsIdle d → IsSameDesk d e → HasTakenTurn key d.seat.me e.seat.me x → IsSound x → e.made ≡ d.made → e.seen ≡ x.start.length + length x.entries → e.heard ≡ d.heard → Began key d e x
   begins x live idle same t sound made seen heard =
-      let mine : IsCounted x.setting.senders t.whole (d.sender, d.made) = only_sender (IsCounted x.setting.senders t.whole) d.seat.me.0.senders (d.sender, d.made) idle.2.senders t.extends.1 in
+      let mine : IsCountedSender x.setting.senders t.whole (d.sender, d.made) = only_sender (IsCountedSender x.setting.senders t.whole) d.seat.me.0.senders (d.sender, d.made) idle.2.senders t.extends.1 in
       let before : List Entry = t.spans.0 in
       let start : x.start.length ≡ length before = ap (λ (b : Base). b.length) t.spans.2.left ∙ empty_length key.setting.senders before in
       let long : length t.whole ≡ x.start.length + length x.entries = omega (arith, ap length t.spans.1, length-append before x.entries, start) in

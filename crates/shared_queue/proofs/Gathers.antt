@@ -13,12 +13,12 @@ use Rattle.queue_state.specs.Queue.{Queue}
 use Rattle.shared_queue.specs.declared.view.View.{View}
 use Rattle.shared_queue.specs.Turn.{joined, new_senders}
 use Rattle.shared_queue.specs.Plays.{Sat}
-use Rattle.shared_queue.specs.Known.{Shared, Known, KeepsNone, IsOf, Rests, made_by}
-use Rattle.shared_queue.specs.Ends.{number_of, sealed_by, TakenIn, Gathered, IsNewPoster, AreNew}
+use Rattle.shared_queue.specs.Known.{Shared, Known, KeepsNone, IsOf, Rests, own_count}
+use Rattle.shared_queue.specs.Ends.{as_counted, sealed_by, TakenIn, Gathered, IsNewPoster, AreNew}
 use Rattle.loop_model.proofs.Prefixes.{prefix_trans}
 
 -- a seat takes in that of a poster
-pub takes_in : {H K : Type 0} (c : Constants H) (s u m n : Sat H K) (p : Known H K) → Rests c s → Rests c u → u.0 ≡ p.view → u.0.senders ≡ (p.sender, made_by p) ∷ [] → KeepsNone p → m ≡ (joined s.0 u.0, s.1) → n ≡ m → All (λ t. IsPrefix t m.0.seen) m.0.told → All (λ t. IsPrefix t m.0.claims) m.0.told_claims → Rests c n × TakenIn s.0 p n.0
+pub takes_in : {H K : Type 0} (c : Constants H) (s u m n : Sat H K) (p : Known H K) → Rests c s → Rests c u → u.0 ≡ p.view → u.0.senders ≡ (p.sender, own_count p) ∷ [] → KeepsNone p → m ≡ (joined s.0 u.0, s.1) → n ≡ m → All (λ t. IsPrefix t m.0.seen) m.0.told → All (λ t. IsPrefix t m.0.claims) m.0.told_claims → Rests c n × TakenIn s.0 p n.0
 takes_in {H} {K} c s u m n p rests theirs is numbers keeps took_in same told told_claims =
     let now : n.0 ≡ joined s.0 u.0 = ap (λ (z : Sat H K). z.0) (same ∙ took_in) in
     let told' : All (λ t. IsPrefix t n.0.seen) (s.0.seen ∷ u.0.seen ∷ s.0.told) = subst (λ (z : Sat H K × Sat H K). All (λ t. IsPrefix t z.0.0.seen) z.1.0.told) (λ i. (sym same i, took_in i)) told in
@@ -44,7 +44,7 @@ sealed_more (q ∷ posters) p = ap (λ l. q.view.sealed ++ l) (sealed_more poste
 pub gathers : {H K : Type 0} (q : Shared H) (posters : List (Known H K)) (p : Known H K) (s n : Sat H K) → Gathered q posters s → Rests q.constants n → TakenIn s.0 p n.0 → Gathered q (posters ++ p ∷ []) n
 gathers {H} {K} q posters p s n g rests t = (
   rests,
-  t.0 ∙ (ap (λ l. l ++ number_of p ∷ []) g.1 ∙ sym (map-append number_of posters (p ∷ []))),
+  t.0 ∙ (ap (λ l. l ++ as_counted p ∷ []) g.1 ∙ sym (map-append as_counted posters (p ∷ []))),
   All-push (λ (x : Known H K). IsPrefix x.view.seen n.0.seen) posters p (All-weaker (λ (x : Known H K). IsPrefix x.view.seen s.0.seen) (λ (x : Known H K). IsPrefix x.view.seen n.0.seen) (λ x h. prefix_trans x.view.seen s.0.seen n.0.seen h t.1) posters g.2) t.2,
   t.3 ∙ (ap (λ l. l ++ p.view.sealed) g.3 ∙ sym (sealed_more posters p)),
   All-push (λ (x : Known H K). KeepsNone x) posters p g.4 t.4,

@@ -15,7 +15,7 @@ use Rattle.shared_queue.specs.Constants.{Constants, made_in, IsStateOf, IsFor}
 use Rattle.shared_queue.specs.Whole.{Leave, whole_queue}
 use Rattle.shared_queue.specs.Turn.{taking, giving, handing, seen_with}
 use Rattle.shared_queue.specs.Plays.{Sat}
-use Rattle.shared_queue.specs.Known.{Known, IsTurn, IsTurnWith, StepsBy, made_by}
+use Rattle.shared_queue.specs.Known.{Known, IsTurn, IsTurnWith, StepsBy, own_count}
 use Rattle.shared_queue.specs.Calls.{IsPart}
 use Rattle.shared_queue.specs.Desk.{IsIdle, Began, Ended, HandedOver}
 use Rattle.loop_model.proofs.Prefixes.{prefix_front, prefix_trans}
@@ -81,10 +81,10 @@ module _ {H K : Type 0} (key : Constants H) (d e : Desk (Queue H K) H K) (x : Qu
     pub found_is : n.seat.me.0.found ≡ Some x
     found_is = ap (λ (v : View (Queue H K) H K). v.found) after_
 
-    made : made_by (known n) ≡ made_by (known d) + (length (b.spans.0 ++ y.entries) - length (b.spans.0 ++ x.entries))
+    made : own_count (known n) ≡ own_count (known d) + (length (b.spans.0 ++ y.entries) - length (b.spans.0 ++ x.entries))
     made =
-        let is_now : made_by (known n) ≡ n.made = f.idle.2.made in
-        let was : made_by (known d) ≡ d.made = idle.2.made in
+        let is_now : own_count (known n) ≡ n.made = f.idle.2.made in
+        let was : own_count (known d) ≡ d.made = idle.2.made in
         let found : length (b.spans.0 ++ x.entries) ≡ e.seen = ap length (sym b.spans.1) ∙ (ap (λ (z : Sat H K). length z.0.seen) (sym b.me) ∙ b.counted.seen) in
         let left : length (seen_with e.seat.me.0 y) ≡ length (b.spans.0 ++ y.entries) = ap length (now_is key d e x y b step.2) in
         is_now ∙ (f.made ∙ (λ i. (b.made ∙ sym was) i + (left i - sym found i)))
@@ -147,7 +147,7 @@ module _ {H K : Type 0} (key : Constants H) (d e : Desk (Queue H K) H K) (x : Qu
       found_made = ap (made_in d.sender) (sym b.spans.1) ∙ (b.found_made ∙ sym idle.2.made);
       step = (refl, refl, refl, inl refl);
       seen = seen_now;
-      made = let now : made_by (known n) ≡ n.made = f.idle.2.made in let was : made_by (known d) ≡ d.made = idle.2.made in omega (arith, now, was, f.made, b.made);
+      made = let now : own_count (known n) ≡ n.made = f.idle.2.made in let was : own_count (known d) ≡ d.made = idle.2.made in omega (arith, now, was, f.made, b.made);
       claims = claims_go_on n.seat.me.0 whole_found y (ap (λ (v : View (Queue H K) H K). v.claims) handed_) (keeps_sealed x y is)
           (λ a. subst (AreClaims (claims_with b.claims y.messages)) (sym same_whole) (claims_whole (b.spans.0 ++ x.entries) y (claims_with b.claims y.messages) leave_sealed a)) (sym (ap (λ (z : Queue H K). z.messages) is));
       rung = ap (λ (v : View (Queue H K) H K). v.rung) handed_;

@@ -25,7 +25,7 @@ use Rattle.shared_queue.specs.declared.desk.Desk.{Desk}
 use Rattle.shared_queue.specs.Constants.{Constants}
 use Rattle.shared_queue.specs.Plays.{Sat}
 use Rattle.shared_queue.specs.Desk.{Began}
-use Rattle.shared_queue.specs.Rings.{wakes_by_post, wakes_by_removal, wakes_by_quit, WakesNone, IsQuiet}
+use Rattle.shared_queue.specs.Rings.{wakes_by_post, wakes_by_removal, wakes_by_quit, WakesNone, LeavesUnwoken}
 
 -- a call that doesn't say that it wakes leaves the mark as it was
 unsaid : (before wake after : Bool) → after ≡ (before || wake) → wake ≡ false → after ≡ true → before ≡ true
@@ -33,7 +33,7 @@ unsaid before wake after is none woken = grind arith
 
 module _ {H K : Type 0} where
   -- the turn that found x may leave y quietly
-  pub quiet : (key : Constants H) (d e : Desk (Queue H K) H K) (x y : Queue H K) → Began key d e x → WakesNone x y → IsQuiet e y
+  pub quiet : (key : Constants H) (d e : Desk (Queue H K) H K) (x y : Queue H K) → Began key d e x → WakesNone x y → LeavesUnwoken e y
   quiet key d e x y b none = (x, ap (λ (z : Sat H K). z.0.found) b.me, none)
 
 module _ {H K : Type 0} (x y : Queue H K) where

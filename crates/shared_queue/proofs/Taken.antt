@@ -7,7 +7,7 @@ use Rattle.queue_state.specs.Queue.{Queue}
 use Rattle.shared_queue.specs.Constants.{Constants}
 use Rattle.shared_queue.specs.Turn.{taking}
 use Rattle.shared_queue.specs.Plays.{Sat, Won}
-use Rattle.shared_queue.specs.Seats.{HasTaken}
+use Rattle.shared_queue.specs.Seats.{HasTakenTurn}
 
 module _ {H K : Type 0} where
   -- what lies in the slot that was taken last
@@ -15,7 +15,7 @@ module _ {H K : Type 0} where
   first_slot [] = None
   first_slot (p ∷ ps) = p.1
 
-  pub takes_out : (key : Constants H) (m won_ n : Sat H K) (r : Option (Queue H K)) (Z : Type 0) → m.0.constants ≡ Some key → m.1 ≡ [] → Won m won_ → won_.1 ≡ (0, r) ∷ rest won_.1 → n ≡ (won_.0, (0, None) ∷ rest won_.1) → MatchOption r Z (λ x. HasTaken key m n x)
+  pub takes_out : (key : Constants H) (m won_ n : Sat H K) (r : Option (Queue H K)) (Z : Type 0) → m.0.constants ≡ Some key → m.1 ≡ [] → Won m won_ → won_.1 ≡ (0, r) ∷ rest won_.1 → n ≡ (won_.0, (0, None) ∷ rest won_.1) → MatchOption r Z (λ x. HasTakenTurn key m n x)
   takes_out key m won_ n r Z live empty won out left =
       let x : Queue H K = won.0 in
       let whole : List Entry = won.1 in
@@ -24,7 +24,7 @@ module _ {H K : Type 0} where
       let same : Some x ≡ r = ap first_slot (sym carries ∙ out) in
       let none_left : rest won_.1 ≡ [] = ap rest carries ∙ empty in
       let own = won.4 key live in
-      subst (λ (o : Option (Queue H K)). MatchOption o Z (λ z. HasTaken key m n z)) same (record {
+      subst (λ (o : Option (Queue H K)). MatchOption o Z (λ z. HasTakenTurn key m n z)) same (record {
         whole = whole;
         claims = claims;
         me = left ∙ ((λ i. ((won.3 i).0, (0, None) ∷ rest won_.1)) ∙ (λ i. (taking m.0 whole claims x, (0, None) ∷ none_left i)));

@@ -25,7 +25,7 @@ use Rattle.shared_queue.specs.Whole.{Course, whole_of, Spans}
 use Rattle.shared_queue.specs.Claims.{AreClaims, claims_at, claims_with}
 use Rattle.queue_state.specs.Queue.{Queue, part_of, sealed}
 use Rattle.shared_queue.specs.declared.view.View.{View}
-use Rattle.shared_queue.specs.Turn.{IsFirst, Board, ArePast, turn_of, holds, Counts, IsPresent, Fits, AtHome, QueueTurn, new_senders, opening_view, counted, taking, seen_with, giving, part_in, handing, fresh, dealt, keeping, joined, gone}
+use Rattle.shared_queue.specs.Turn.{IsFreshState, Board, ArePast, turn_of, holds, Counts, IsPresent, Fits, AtHome, QueueTurn, new_senders, opening_view, counted, taking, seen_with, giving, part_in, handing, fresh, dealt, keeping, joined, gone}
 use Rattle.shared_queue.proofs.Untold.{untold_before, untold_front, told_one}
 use Rattle.shared_queue.specs.Plays.{Sat, bare, sat, took, gave, handed, MayGive, MayHand, learned, rang, listened}
 use Rattle.loop_model.proofs.Sums.{set_at, has_first, total-append, total-set, total-none, term_le, terms_le}
@@ -562,7 +562,7 @@ module _ {H K : Type 0} (key : Constants H) where
       )
 
   -- the table as it is made
-  pub opens : (x : Queue H K) → IsFirst key x → QueueTurn key (opening (0 ∷ 0 ∷ []) (Some x ∷ []) (opening_view key))
+  pub opens : (x : Queue H K) → IsFreshState key x → QueueTurn key (opening (0 ∷ 0 ∷ []) (Some x ∷ []) (opening_view key))
   opens x is = record {
     course = record { parts = []; since = []; claims = [] };
     past = record { chain = tt; legal = IsLegal-none key.setting (empty_base key.setting.senders); numbered = AreNumbered-none key.setting (empty_base key.setting.senders) };

@@ -9,7 +9,7 @@ use Rattle.shared_queue.specs.declared.waiting.Waited.TheVariants as waited
 use Rattle.shared_queue.specs.declared.waiting.Look.{Look}
 use Rattle.shared_queue.specs.declared.waiting.Look.TheVariants as look
 use Rattle.shared_queue.specs.Known.{Known, Shared, IsOf}
-use Rattle.shared_queue.specs.Waiting.{HasStayed, HasLooked, HasListened, HasSlept, Slept, EndsBy, Stays, LooksOnce, MaySleep}
+use Rattle.shared_queue.specs.Waiting.{HasStayed, HasLooked, HasListened, HasSlept, Slept, LastLookBy, Stays, LooksOnce, MaySleep}
 
 module _ {H K : Type 0} (shows : ℕ → Bool) (start : ℕ) (idle : Bool) (cap : Option ℕ) where
   -- what follows a look that was answered to wait, by what comes of it
@@ -77,7 +77,7 @@ module _ {H K : Type 0} (shows : ℕ → Bool) (start : ℕ) (idle : Bool) (cap 
       let h = s.2 in
       rests_then p s.0 q (slept_rests n p s.0 s.1) (rests s.0 q (still s.0 h.looked q (looked h.now (nexted.Wait h.until) s.0 h.looked h.look) (listened h.looked q h.listened)))
 
-  ends_stayed : (p q : Known H K) (r : Waited K H) → EndsBy shows start idle cap p q r → HasStayed p q
+  ends_stayed : (p q : Known H K) (r : Waited K H) → LastLookBy shows start idle cap p q r → HasStayed p q
   ends_stayed p q (waited.Taken n at node) h = looked h.0 (nexted.Taken n at node) p q h.1
   ends_stayed p q waited.Idle h = looked h.0 nexted.Idle p q h.1
   ends_stayed p q (waited.End list) h = looked h.0 (nexted.End list) p q h.1
@@ -85,7 +85,7 @@ module _ {H K : Type 0} (shows : ℕ → Bool) (start : ℕ) (idle : Bool) (cap 
   ends_stayed p q (waited.Cap now) h = looked now (nexted.Wait h.0) p q h.1
   ends_stayed p q waited.Nudged h = still p h.looked q (looked h.now (nexted.Wait h.until) p h.looked h.look) (listened h.looked q h.listened)
 
-  pub wait_stays : (p q r : Known H K) (w : Waited K H) → (n : ℕ) × Slept shows start idle cap n p q → EndsBy shows start idle cap q r w → HasStayed p r
+  pub wait_stays : (p q r : Known H K) (w : Waited K H) → (n : ℕ) × Slept shows start idle cap n p q → LastLookBy shows start idle cap q r w → HasStayed p r
   wait_stays p q r w h e = stayed p q r (slept_rests h.0 p q h.1) (ends_stayed q r w e)
 
   -- a look that was answered to wait lets the poster sleep so long

@@ -24,7 +24,7 @@ use Rattle.loop_model.proofs.FirstLaws.{first_eligible-listed, pick-listed, list
 use Rattle.loop_model.proofs.LegalLaws.{IsLegal-join, made_count_from_after}
 use Rattle.loop_model.proofs.NumberLaws.{AreNumbered-join}
 use Rattle.loop_model.proofs.SleepLaws.{wakes-listed, is_sound_sleep-listed}
-use Rattle.message_slot.specs.Letter.{Letter, post_of, with_number}
+use Rattle.message_slot.specs.Letter.{Letter, post_of, letter_with_number}
 use Rattle.queue_state.specs.declared.answers.Posted.{Posted}
 use Rattle.queue_state.specs.declared.answers.Posted.TheVariants as posted
 use Rattle.queue_state.specs.declared.answers.Nexted.{Nexted}
@@ -137,7 +137,7 @@ module _ {H K : Type 0} (before : List Entry) (x : Queue H K) (l : Leave x.setti
     leaves c r ms b w y is = ap (whole_queue before) is ∙ ap (with_rest ms b w) (entered_alike c r)
 
     pub posts_whole : (y : Queue H K) (m : Letter K) (r : Posted K H) → Posts x s m r y → Posts (whole_queue before x) s m r (whole_queue before y)
-    posts_whole y m (posted.Accepted n wake) p = (replies _ _ p.0, p.1 ∙ woke (Post (post_of m.item)) (Accepted n), leaves (Post (post_of m.item)) (Accepted n) (with_message (with_number n m) x.messages) x.blocked (x.woken || wake) y p.2)
+    posts_whole y m (posted.Accepted n wake) p = (replies _ _ p.0, p.1 ∙ woke (Post (post_of m.item)) (Accepted n), leaves (Post (post_of m.item)) (Accepted n) (with_message (letter_with_number n m) x.messages) x.blocked (x.woken || wake) y p.2)
     posts_whole y m (posted.Refused place node) p = (replies _ _ p.0, p.1, leaves (Post (post_of m.item)) (Refused place) x.messages x.blocked x.woken y p.2)
     posts_whole y m (posted.NoMemory node) p = (p.0, ap (whole_queue before) p.1)
 

@@ -13,11 +13,11 @@ pub record Constants (H : Type 0) : Type 0 where
   pub setting : Setting
 
 -- the setting of a queue with these marks
-abbrev pub setting_of : Traits → Setting
-setting_of t = record { main = t.main; lockstep = t.lockstep; senders = t.senders }
+abbrev pub traits_setting : Traits → Setting
+traits_setting t = record { main = t.main; lockstep = t.lockstep; senders = t.senders }
 
 abbrev pub constants_of : {H : Type 0} → H → Traits → Constants H
-constants_of home t = record { home = home; looper = t.looper; setting = setting_of t }
+constants_of home t = record { home = home; looper = t.looper; setting = traits_setting t }
 
 -- how many entries of the sender stand in the list
 abbrev pub made_in : ℕ → List Entry → ℕ

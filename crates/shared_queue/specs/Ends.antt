@@ -17,7 +17,7 @@ use Rattle.shared_queue.specs.declared.view.View.{View}
 use Rattle.shared_queue.specs.Constants.{Constants, made_in, IsFor}
 use Rattle.shared_queue.specs.Claims.{IsAsAccepted, AreClaims}
 use Rattle.shared_queue.specs.Turn.{ArePast, opening_view, new_senders, keeping}
-use Rattle.shared_queue.specs.Known.{Shared, Known, KeepsNone, IsOf, Rests, made_by}
+use Rattle.shared_queue.specs.Known.{Shared, Known, KeepsNone, IsOf, Rests, own_count}
 
 -- the record has what stayed the same in the queue
 pub record KeepsConstants {H : Type 0} (c : Constants H) (r : QueueRecord) : Type 0 where
@@ -42,7 +42,7 @@ module _ {H K : Type 0} where
 
   -- a poster that has done nothing
   pub record IsNewPoster (p : Known H K) : Type 0 where
-    pub made : made_by p ≡ 0
+    pub made : own_count p ≡ 0
     pub seen : p.view.seen ≡ []
     pub claims : p.view.claims ≡ []
     pub turns : p.view.turns ≡ 0
@@ -57,7 +57,7 @@ module _ {H K : Type 0} where
   -- the history begins with what each poster has seen, and has the entries of its sender that it has made, and no others
   abbrev pub HasCalls : List Entry → List (Known H K) → Type 0
   HasCalls entries posters = (k : ℕ) (d : Known H K) → k < length posters
-      → IsPrefix (slice_index_or posters k d).view.seen entries × (made_in (slice_index_or posters k d).sender entries ≡ made_by (slice_index_or posters k d))
+      → IsPrefix (slice_index_or posters k d).view.seen entries × (made_in (slice_index_or posters k d).sender entries ≡ own_count (slice_index_or posters k d))
 
   -- the claims begin with what each poster has seen of them
   abbrev pub BeginClaims : List (Option K) → List (Known H K) → Type 0
@@ -85,8 +85,8 @@ module _ {H K : Type 0} where
   undealt key sender = keeping (opening_view key) (new_senders sender (key.setting.senders - sender))
 
   -- the sender number of the poster, with the number of its entries
-  abbrev pub number_of : Known H K → ℕ × ℕ
-  number_of p = (p.sender, made_by p)
+  abbrev pub as_counted : Known H K → ℕ × ℕ
+  as_counted p = (p.sender, own_count p)
 
   -- the last poster handed these parts out
   abbrev pub HaveSealed : List (Known H K) → List Segment → Type 0
@@ -109,12 +109,12 @@ module _ {H K : Type 0} where
   -- the view has taken in what the poster had
   abbrev pub TakenIn : View (Queue H K) H K → Known H K → View (Queue H K) H K → Type 0
   TakenIn v p w =
-      (w.senders ≡ v.senders ++ number_of p ∷ []) × IsPrefix v.seen w.seen × IsPrefix p.view.seen w.seen × (w.sealed ≡ v.sealed ++ p.view.sealed) × KeepsNone p
+      (w.senders ≡ v.senders ++ as_counted p ∷ []) × IsPrefix v.seen w.seen × IsPrefix p.view.seen w.seen × (w.sealed ≡ v.sealed ++ p.view.sealed) × KeepsNone p
       × IsPrefix v.claims w.claims × IsPrefix p.view.claims w.claims
 
   -- the seat has what all these posters had
   abbrev pub Gathered : Shared H → List (Known H K) → Me (Option (Queue H K)) (View (Queue H K) H K) → Type 0
-  Gathered q posters m = Rests q.constants m × (m.0.senders ≡ map number_of posters)
+  Gathered q posters m = Rests q.constants m × (m.0.senders ≡ map as_counted posters)
       × ((k : ℕ) (d : Known H K) → k < length posters → IsPrefix (slice_index_or posters k d).view.seen m.0.seen)
       × (m.0.sealed ≡ sealed_by posters)
       × ((k : ℕ) (d : Known H K) → k < length posters → KeepsNone (slice_index_or posters k d))

@@ -11,7 +11,7 @@ use Rattle.loop_model.specs.Chain.{after}
 use Rattle.queue_state.specs.Queue.{Queue, IsSound}
 use Rattle.shared_queue.specs.declared.view.View.{View}
 use Rattle.shared_queue.specs.Constants.{Constants, made_in, IsStateOf}
-use Rattle.shared_queue.specs.Whole.{Shows}
+use Rattle.shared_queue.specs.Whole.{ShowsWhole}
 use Rattle.shared_queue.specs.Claims.{ClaimsGoOn}
 
 -- a queue: its table, and its constants
@@ -37,8 +37,8 @@ with_parts kept (p ∷ ps) = with_parts (kept ++ p ∷ []) ps
 
 module _ {H K : Type 0} where
   -- how many entries it has made
-  abbrev pub made_by : Known H K → ℕ
-  made_by p = made_in p.sender p.view.seen
+  abbrev pub own_count : Known H K → ℕ
+  own_count p = made_in p.sender p.view.seen
 
   -- no other poster than the last sender's handed anything out
   abbrev pub KeepsNone : Known H K → Type 0
@@ -66,8 +66,8 @@ module _ {H K : Type 0} where
     pub constants : after.view.constants ≡ before.view.constants
     pub turns : after.view.turns ≡ before.view.turns + 1
     -- the very states, which start from what was handed out before
-    pub found : Shows after.view.found x
-    pub left : Shows after.view.left y
+    pub found : ShowsWhole after.view.found x
+    pub left : ShowsWhole after.view.left y
     pub start : option_map (λ (z : Queue H K). z.start) after.view.left ≡ next_start parts (option_map (λ (z : Queue H K). z.start) after.view.found)
     pub sealed : after.view.sealed ≡ with_parts before.view.sealed parts
     -- both are states of the poster's queue, and sound
@@ -75,11 +75,11 @@ module _ {H K : Type 0} where
     pub sound : IsSound x × IsSound y
     -- the history found begins with what the poster had seen, and has as many entries of it
     pub begins : IsPrefix before.view.seen x.entries
-    pub found_made : made_in before.sender x.entries ≡ made_by before
+    pub found_made : made_in before.sender x.entries ≡ own_count before
     -- the poster made what was appended, and has seen it
     pub step : StepsBy before.sender x y
     pub seen : after.view.seen ≡ y.entries
-    pub made : made_by after ≡ made_by before + (length y.entries - length x.entries)
+    pub made : own_count after ≡ own_count before + (length y.entries - length x.entries)
     -- the poster has seen the claims of all accepted posts, of which the messages have theirs
     pub claims : ClaimsGoOn before.view.claims after.view.claims x y
     pub rung : after.view.rung ≡ before.view.rung
@@ -99,7 +99,7 @@ module _ {H K : Type 0} where
     pub found : after.view.found ≡ before.view.found
     pub left : after.view.left ≡ before.view.left
     pub sealed : after.view.sealed ≡ before.view.sealed
-    pub made : made_by after ≡ made_by before
+    pub made : own_count after ≡ own_count before
 
   -- a call that only hears leaves the rings and the last reading of the bell too
   abbrev pub HasOnlyHeard : Known H K → Known H K → Type 0

@@ -18,8 +18,8 @@ abbrev pub Play : Type 0 → Type 0 → Type 1
 Play H K = Step (Option (Queue H K)) → Sat H K → ℕ → Sat H K → Type 0
 
 -- the sender is one of the queue, and the history has as many entries of it as counted
-abbrev pub IsCounted : ℕ → List Entry → ℕ × ℕ → Type 0
-IsCounted senders history p = (p.0 < senders) × (made_in p.0 history ≡ p.1)
+abbrev pub IsCountedSender : ℕ → List Entry → ℕ × ℕ → Type 0
+IsCountedSender senders history p = (p.0 < senders) × (made_in p.0 history ≡ p.1)
 
 module _ {H K : Type 0} where
   -- the constants stay, and all else is empty
@@ -35,7 +35,7 @@ module _ {H K : Type 0} where
 
   -- the history begins with what was seen, and each sender of the view has as many entries in it as counted
   abbrev pub Extends : View (Queue H K) H K → List Entry → Queue H K → Type 0
-  Extends v whole x = IsPrefix v.seen whole × All (IsCounted x.setting.senders whole) v.senders
+  Extends v whole x = IsPrefix v.seen whole × All (IsCountedSender x.setting.senders whole) v.senders
 
   -- these are the claims of the state's accepted posts, and the view has seen the beginning of them
   abbrev pub KnowsClaims : View (Queue H K) H K → List (Option K) → Queue H K → Type 0
@@ -54,12 +54,12 @@ module _ {H K : Type 0} where
   gave st m r n = (x : Queue H K) → m.1 ≡ (0, Some x) ∷ [] → n ≡ (giving m.0 x, [])
 
   -- the state x that was found is given back as y, with the same base, and with its entries or one more, of a sender of the seat
-  abbrev pub GoesOn : View (Queue H K) H K → Queue H K → Queue H K → Type 0
-  GoesOn v x y = (y.start ≡ x.start) × ((y.entries ≡ x.entries) ⊎ ((e : Entry) × (y.entries ≡ x.entries ++ e ∷ []) × (0 < holds e.sender v)))
+  abbrev pub StateGoesOn : View (Queue H K) H K → Queue H K → Queue H K → Type 0
+  StateGoesOn v x y = (y.start ≡ x.start) × ((y.entries ≡ x.entries) ⊎ ((e : Entry) × (y.entries ≡ x.entries ++ e ∷ []) × (0 < holds e.sender v)))
 
   -- its messages have their claims, of which one may be new
   abbrev pub MayGive : View (Queue H K) H K → Queue H K → Type 0
-  MayGive v y = (x : Queue H K) × (v.found ≡ Some x) × GoesOn v x y × AreClaims (claims_with v.claims y.messages) y
+  MayGive v y = (x : Queue H K) × (v.found ≡ Some x) × StateGoesOn v x y × AreClaims (claims_with v.claims y.messages) y
 
   abbrev pub handed : Play H K
   handed st m r n = (x : Queue H K) → m.1 ≡ (0, Some x) ∷ [] → n ≡ (handing m.0 x, [])

@@ -34,5 +34,5 @@ module _ {H K : Type 0} where
   WakesNone x y = (y.woken ≡ true) → x.woken ≡ true
 
   -- the turn leaves a looper woken only where it found it so
-  abbrev pub IsQuiet : Desk (Queue H K) H K → Queue H K → Type 0
-  IsQuiet d y = (x : Queue H K) × (d.seat.me.0.found ≡ Some x) × WakesNone x y
+  abbrev pub LeavesUnwoken : Desk (Queue H K) H K → Queue H K → Type 0
+  LeavesUnwoken d y = (x : Queue H K) × (d.seat.me.0.found ≡ Some x) × WakesNone x y

@@ -11,7 +11,7 @@ use Rattle.shared_queue.specs.Plays.{Extends, KnowsClaims}
 
 module _ {H K : Type 0} where
   -- the seat has the turn, and the state x of its queue, with this whole history
-  pub record HasTaken (key : Constants H) (m n : Me (Option (Queue H K)) (View (Queue H K) H K)) (x : Queue H K) : Type 0 where
+  pub record HasTakenTurn (key : Constants H) (m n : Me (Option (Queue H K)) (View (Queue H K) H K)) (x : Queue H K) : Type 0 where
     pub whole : List Entry
     pub claims : List (Option K)
     pub me : n ≡ (taking m.0 whole claims x, (0, None) ∷ [])

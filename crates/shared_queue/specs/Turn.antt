@@ -53,8 +53,8 @@ module _ {H K : Type 0} where
   IsPresent key c x = (x.start ≡ after (empty_base key.setting.senders) (entries_of c.parts)) × (x.entries ≡ c.since) × AreClaims c.claims x
 
   -- the present state was found
-  abbrev pub Finds : Constants H → Course K → Option (Queue H K) → Type 0
-  Finds key c found = (x : Queue H K) × (found ≡ Some x) × IsPresent key c x
+  abbrev pub FindsKept : Constants H → Course K → Option (Queue H K) → Type 0
+  FindsKept key c found = (x : Queue H K) × (found ≡ Some x) × IsPresent key c x
 
   -- what the rule says of one view
   pub record Fits (key : Constants H) (course : Course K) (v : View (Queue H K) H K) : Type 0 where
@@ -65,7 +65,7 @@ module _ {H K : Type 0} where
     pub told_claims : All (λ t. IsPrefix t v.claims) v.told_claims
     pub below : All (λ p. p.0 < key.setting.senders) v.senders
     pub mine : All (Counts (whole_of course) v.seen) v.senders
-    pub turn : v.has_turn ≡ true → (v.seen ≡ whole_of course) × (0 < length v.senders) × Finds key course v.found × (v.claims ≡ course.claims)
+    pub turn : v.has_turn ≡ true → (v.seen ≡ whole_of course) × (0 < length v.senders) × FindsKept key course v.found × (v.claims ≡ course.claims)
     -- only a seat with a sender number rings the bell
     pub quiet : 0 < v.rung → 0 < length v.senders
     -- the seat of the last sender keeps the parts that were handed out, and no other seat keeps any
@@ -81,7 +81,7 @@ module _ {H K : Type 0} where
   AreUntold views = (j : ℕ) (v : View (Queue H K) H K) → get_elem? views j ≡ some v → v.told ≡ []
 
   -- a state to which nothing has happened: no entry, no message, and its looper doesn't wait
-  pub record IsFirst (key : Constants H) (x : Queue H K) : Type 0 where
+  pub record IsFreshState (key : Constants H) (x : Queue H K) : Type 0 where
     pub own : IsStateOf key x
     pub entries : x.entries ≡ []
     pub messages : x.messages ≡ []
@@ -100,7 +100,7 @@ module _ {H K : Type 0} where
     pub once : slice_index s.words 0 < 2
     pub free : slice_index s.words 0 ≡ 0 → AtHome key course s
     -- until the first turn nothing has happened to the state
-    pub first : AreUntold s.views → (x : Queue H K) × (get_elem? s.homes 0 ≡ some (some (Some x))) × IsFirst key x
+    pub first : AreUntold s.views → (x : Queue H K) × (get_elem? s.homes 0 ≡ some (some (Some x))) × IsFreshState key x
     pub each : (j : ℕ) (v : View (Queue H K) H K) → get_elem? s.views j ≡ some v → Fits key course v
     -- each sender number stands in one view, once
     pub placed : (n : ℕ) → n < key.setting.senders → total (holds n) s.views ≡ 1

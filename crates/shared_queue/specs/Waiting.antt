@@ -93,23 +93,24 @@ module _ {H K : Type 0} where
     pub heard : after.view.heard ≢ before.view.heard
 
   -- the last look, by the answer of the wait
-  abbrev pub EndsBy : (ℕ → Bool) → ℕ → Bool → Option ℕ → Known H K → Known H K → Waited K H → Type 0
-  EndsBy shows start idle cap before after (waited.Taken number at node) = (now : ℕ) × HasLooked shows start idle now (nexted.Taken number at node) before after
-  EndsBy shows start idle cap before after waited.Idle = (now : ℕ) × HasLooked shows start idle now nexted.Idle before after
-  EndsBy shows start idle cap before after (waited.End list) = (now : ℕ) × HasLooked shows start idle now (nexted.End list) before after
-  EndsBy shows start idle cap before after waited.Over = (now : ℕ) × HasLooked shows start idle now nexted.Over before after
-  EndsBy shows start idle cap before after (waited.Cap now) =
+  abbrev pub LastLookBy : (ℕ → Bool) → ℕ → Bool → Option ℕ → Known H K → Known H K → Waited K H → Type 0
+  LastLookBy shows start idle cap before after (waited.Taken number at node) =
+      (now : ℕ) × HasLooked shows start idle now (nexted.Taken number at node) before after
+  LastLookBy shows start idle cap before after waited.Idle = (now : ℕ) × HasLooked shows start idle now nexted.Idle before after
+  LastLookBy shows start idle cap before after (waited.End list) = (now : ℕ) × HasLooked shows start idle now (nexted.End list) before after
+  LastLookBy shows start idle cap before after waited.Over = (now : ℕ) × HasLooked shows start idle now nexted.Over before after
+  LastLookBy shows start idle cap before after (waited.Cap now) =
       (until : Option ℕ) × HasLooked shows start idle now (nexted.Wait until) before after × IsCap cap now
-  EndsBy shows start idle cap before after waited.Nudged = HasNudged shows start idle cap before after
+  LastLookBy shows start idle cap before after waited.Nudged = HasNudged shows start idle cap before after
 
   -- a wait: looks that were answered to wait, and then the last one, by its answer
   abbrev pub WaitedBy : (ℕ → Bool) → ℕ → Bool → Option ℕ → Known H K → Known H K → Waited K H → Type 0
   WaitedBy shows start idle cap before after result =
-      (n : ℕ) × (between : Known H K) × Slept shows start idle cap n before between × EndsBy shows start idle cap between after result
+      (n : ℕ) × (between : Known H K) × Slept shows start idle cap n before between × LastLookBy shows start idle cap between after result
 
   -- one look, and what comes of it
   abbrev pub LooksOnce : (ℕ → Bool) → ℕ → Bool → Option ℕ → Known H K → Known H K → Look K H → Type 0
-  LooksOnce shows start idle cap before after (look.Ends result) = EndsBy shows start idle cap before after result
+  LooksOnce shows start idle cap before after (look.Ends result) = LastLookBy shows start idle cap before after result
   LooksOnce shows start idle cap before after (look.Sleeps limit) =
       (s : HasSlept shows start idle cap before after) × (limit ≡ limit_of s.now s.until cap)
 

@@ -35,5 +35,5 @@ module _ {H K : Type 0} where
   whole_queue before x = record x { start = empty_base x.setting.senders; entries = before ++ x.entries }
 
   -- the state, which is this one over its whole history
-  abbrev pub Shows : Option (Queue H K) → Queue H K → Type 0
-  Shows state whole = (x : Queue H K) × (before : List Entry) × (state ≡ Some x) × Leave x.setting before x.start × (whole ≡ whole_queue before x)
+  abbrev pub ShowsWhole : Option (Queue H K) → Queue H K → Type 0
+  ShowsWhole state whole = (x : Queue H K) × (before : List Entry) × (state ≡ Some x) × Leave x.setting before x.start × (whole ≡ whole_queue before x)

@@ -2,7 +2,7 @@
 ghost use Rattle.std.specs.Prelude.{◌≡◌, ◌+◌, false, length, Some};
 ghost use Rattle.queue_state.specs.Queue.{IsSound};
 ghost use Rattle.shared_queue.specs.Desk.{IsIdle, Began, MayEnd, Ended, MayHandOver, HandedOver};
-ghost use Rattle.shared_queue.specs.Rings.{IsQuiet};
+ghost use Rattle.shared_queue.specs.Rings.{LeavesUnwoken};
 
 use crate::on_heap::OnHeap;
 use crate::owing::{Owing, Wakes};
@@ -46,7 +46,7 @@ impl<K: Claim, E: Recorder> Desk<QueueState<K, E>, K::Home, K> {
     pub(crate) fn end(&mut self, queue: &SharedQueue<K, E>, state: OnHeap<QueueState<K, E>>)
         requires table { self.old.seat.table_id ≡ queue.now.table }
         requires turn { MayEnd queue.now.constants self.old state }
-        requires quiet { IsQuiet self.old state }
+        requires quiet { LeavesUnwoken self.old state }
         ensures { Ended self.old self.new state }
     {
         self.give_back(queue, state);
@@ -61,7 +61,7 @@ impl<K: Claim, E: Recorder> Desk<QueueState<K, E>, K::Home, K> {
     ) -> Owing<A>
         requires table { self.old.seat.table_id ≡ queue.now.table }
         requires turn { MayEnd queue.now.constants self.old state }
-        requires quiet { A.says answer ≡ false → IsQuiet self.old state }
+        requires quiet { A.says answer ≡ false → LeavesUnwoken self.old state }
         ensures ended { Ended self.old self.new state }
         ensures answer { result ≡ answer }
     {

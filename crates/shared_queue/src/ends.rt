@@ -2,7 +2,7 @@
 ghost use Rattle.std.specs.Prelude.{◌≡◌, ◌+◌, ◌<◌, [], All, length, IfOk};
 ghost use Rattle.message_slot.specs.Letter.{IsAtHome};
 ghost use Rattle.shared_queue.specs.Constants.{constants_of};
-ghost use Rattle.shared_queue.specs.Turn.{IsFirst, opening_view};
+ghost use Rattle.shared_queue.specs.Turn.{IsFreshState, opening_view};
 ghost use Rattle.shared_queue.specs.Known.{Rests, IsOf};
 ghost use Rattle.shared_queue.specs.Ends.{undealt, IsNewPoster, AreNew, AreInOrder, AreAllPosters, TakenIn, Gathered};
 ghost use Rattle.shared_queue.specs.Ends.{IsLeftBy, AreLeftAsAccepted, IsLast, IsWholeEnd, KeepsConstants, HaveSealed};
@@ -100,7 +100,7 @@ impl<K: Claim, E: Recorder> SharedQueue<K, E> {
         traits: Traits,
         state: OnHeap<QueueState<K, E>>,
     ) -> Result<(SharedQueue<K, E>, Place<K, E>), NoMemory>
-        requires state { IsFirst (constants_of home.value traits) state }
+        requires state { IsFreshState (constants_of home.value traits) state }
         requires senders { 0 < traits.senders }
         ensures constants { IfOk result (λ r. r.0.constants ≡ constants_of home.value traits) }
         ensures seat { IfOk result (λ r. (r.1.table_id ≡ r.0.table) × (r.1.me ≡ (opening_view (constants_of home.value traits), []))) }

@@ -3,7 +3,7 @@ ghost use Rattle.std.specs.Prelude.{◌≡◌, ◌+◌, false, [], ◌∷◌, le
 ghost use mathlib.Core.List.{IsPrefix};
 ghost use Rattle.loop_model.specs.Lists.{longer};
 ghost use Rattle.shared_queue.specs.Desk.{IsIdle};
-ghost use Rattle.shared_queue.specs.Known.{Known, KeepsNone, IsOf, IsSamePoster, HasOnlyHeard, made_by};
+ghost use Rattle.shared_queue.specs.Known.{Known, KeepsNone, IsOf, IsSamePoster, HasOnlyHeard, own_count};
 
 use crate::desk::Desk;
 use crate::owing::{Nudge, Owing};
@@ -50,7 +50,7 @@ impl<K: Claim, E: Recorder> Poster<K, E> {
         ensures table { result.table_id ≡ self.table }
         ensures view { (result.me.0 ≡ self.view) × KeepsNone self }
         ensures rests { (result.me.0.has_turn ≡ false) × (result.me.1 ≡ []) }
-        ensures senders { result.me.0.senders ≡ (self.sender, made_by self) ∷ [] }
+        ensures senders { result.me.0.senders ≡ (self.sender, own_count self) ∷ [] }
     {
         let Poster { desk } = self;
         let Desk {
@@ -72,7 +72,7 @@ impl<K: Claim, E: Recorder> Poster<K, E> {
 
     /// How many entries of the history it has made (this project's profile).
     pub fn made(&self) -> u64
-        ensures { result ≡ made_by self.now }
+        ensures { result ≡ own_count self.now }
     {
         self.desk.made
     }

@@ -1,10 +1,10 @@
 // The table of a queue, and the two steps of a turn.
 ghost use Rattle.std.specs.Prelude.{◌≡◌, ◌<◌, true, [], ◌∷◌, length, Option, Some, None, MatchOption};
-ghost use Rattle.shared_queue.specs.Constants.{IsFor, last_of, setting_of};
+ghost use Rattle.shared_queue.specs.Constants.{IsFor, last_of, traits_setting};
 ghost use Rattle.shared_queue.specs.Turn.{holds, giving, handing};
 ghost use Rattle.shared_queue.specs.Plays.{MayGive, MayHand};
 ghost use Rattle.shared_queue.specs.Known.{Shared, Rests};
-ghost use Rattle.shared_queue.specs.Seats.{HasTaken};
+ghost use Rattle.shared_queue.specs.Seats.{HasTakenTurn};
 
 use crate::on_heap::OnHeap;
 use crate::owing::{Owing, Wakes};
@@ -52,7 +52,7 @@ impl<K: Claim, E: Recorder> Model for SharedQueue<K, E> {
     ghost view = { λ s. record { table = s.table.shared.table_id; constants = s.table.shared.key } };
 
     ghost invariant = { λ s. (s.table.shared.table_id.words ≡ 2) × (s.table.shared.table_id.slots ≡ 1)
-        × (s.traits.looper ≡ s.table.shared.key.looper) × (setting_of s.traits ≡ s.table.shared.key.setting) × (0 < s.traits.senders) };
+        × (s.traits.looper ≡ s.table.shared.key.looper) × (traits_setting s.traits ≡ s.table.shared.key.setting) × (0 < s.traits.senders) };
 }
 
 impl<K: Claim, E: Recorder> SharedQueue<K, E> {
@@ -73,7 +73,7 @@ impl<K: Claim, E: Recorder> SharedQueue<K, E> {
         requires table { seat.old.table_id ≡ self.now.table }
         requires rests { Rests self.now.constants seat.old.me × (0 < length seat.old.me.0.senders) }
         ensures seat { (seat.new.table_id ≡ seat.old.table_id) × (seat.new.id ≡ seat.old.id) }
-        ensures taken { MatchOption result (seat.new.me ≡ seat.old.me) (λ x. HasTaken self.now.constants seat.old.me seat.new.me x) }
+        ensures taken { MatchOption result (seat.new.me ≡ seat.old.me) (λ x. HasTakenTurn self.now.constants seat.old.me seat.new.me x) }
     {
         for _ in 0..TRIES {
             if self.table.shared.compare_exchange::<Take>(seat, 0, 0, 1) == 0 {
@@ -89,7 +89,7 @@ impl<K: Claim, E: Recorder> SharedQueue<K, E> {
         requires table { seat.old.table_id ≡ self.now.table }
         requires rests { Rests self.now.constants seat.old.me × (0 < length seat.old.me.0.senders) }
         ensures seat { (seat.new.table_id ≡ seat.old.table_id) × (seat.new.id ≡ seat.old.id) }
-        ensures taken { HasTaken self.now.constants seat.old.me seat.new.me result }
+        ensures taken { HasTakenTurn self.now.constants seat.old.me seat.new.me result }
     {
         for _ in rt.forever() {
             if let Some(state) = self.try_take(seat) {

@@ -1,6 +1,6 @@
 //! A looper that always has a message due, beside four threads that post; and loopers that have quit.
 ghost use Rattle.std.specs.Prelude.{◌≡◌, ◌<◌, false, length};
-ghost use Rattle.plain_loop.specs.Senders.{IsSender, AreSenders, IsLooper};
+ghost use Rattle.plain_loop.specs.Senders.{IsSender, AreSenders, IsQueueLooper};
 
 use crate::calls::{Soaked, Window};
 use crate::posting::{Again, OWN, post, post_in_vain, post_many};
@@ -128,7 +128,7 @@ fn post_beside<R: Threads + Wait + time::Clock + Sync, C: Clock + Sync, E: LetGo
     senders: Senders<E>,
     posts: u64,
 ) -> Done
-    requires looper { IsLooper mailbox.now.queue.now mailbox.now.pool.now looper }
+    requires looper { IsQueueLooper mailbox.now.queue.now mailbox.now.pool.now looper }
     requires free { mailbox.now.queue.now.constants.setting.lockstep ≡ false }
     requires senders { AreSenders mailbox.now.queue.now mailbox.now.pool.now senders × (5 < length senders.posters.items) }
 {

@@ -1,6 +1,6 @@
 //! What the posting threads do, and the handler.
 ghost use Rattle.handler_post.specs.Ways.{IsReady};
-ghost use Rattle.plain_loop.specs.Lines.{Keeps, way_of};
+ghost use Rattle.plain_loop.specs.Lines.{KeepsLine, way_of};
 ghost use Rattle.plain_loop.specs.Senders.{IsSender};
 
 use crate::calls::{Soaked, Window, begin};
@@ -53,7 +53,7 @@ pub fn post<R: Wait + time::Clock, C: Clock, E: Recorder>(
     soaked: &mut Soaked,
 ) -> Handled
     requires { IsReady (way_of line.old) }
-    ensures keeps { Keeps (way_of line.old) (way_of line.new) }
+    ensures keeps { KeepsLine (way_of line.old) (way_of line.new) }
 {
     let began = begin(line.rt);
     let sent = line.send(POSTS.obtain(what, 0));
@@ -74,7 +74,7 @@ fn remove<R: Wait + time::Clock, C: Clock, E: Recorder>(
     soaked: &mut Soaked,
 ) -> Handled
     requires { IsReady (way_of line.old) }
-    ensures keeps { Keeps (way_of line.old) (way_of line.new) }
+    ensures keeps { KeepsLine (way_of line.old) (way_of line.new) }
 {
     let began = begin(line.rt);
     let erased = line.remove(POSTS.messages(NEVER));

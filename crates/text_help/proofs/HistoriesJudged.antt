@@ -9,7 +9,7 @@ use Rattle.trace_check.specs.declared.trace.TraceQueue.{TraceQueue}
 use Rattle.trace_check.specs.declared.fault.Fault.{Fault}
 use Rattle.trace_check.specs.Checking.{IsFaultAfter}
 use Rattle.trace_check.specs.Good.{IsFirstBad}
-use Rattle.text_help.specs.Histories.{IsFirstIllegal, IsLegalQueue}
+use Rattle.text_help.specs.Histories.{IsFirstFault, IsLegalQueue}
 
 pub one_more : (queues : List TraceQueue) (i : ℕ) (queue : TraceQueue) → i < length queues → queue ≡ slice_index_or queues i queue
     → All IsLegalQueue (take i queues) → IsLegalQueue queue → All IsLegalQueue (take (i + 1) queues)
@@ -17,7 +17,7 @@ one_more queues i queue inside is before legal = All-more IsLegalQueue queues i 
 
 pub first_illegal : (queues : List TraceQueue) (i : ℕ) (queue : TraceQueue) (place : ℕ) (fault : Fault) → i < length queues → queue ≡ slice_index_or queues i queue
     → All IsLegalQueue (take i queues) → IsFirstBad queue place → ((d : Entry) → IsFaultAfter queue (take place queue.entries) (slice_index_or queue.entries place d) fault)
-    → IsFirstIllegal queues i place fault
+    → IsFirstFault queues i place fault
 first_illegal queues i queue place fault inside is before bad why = record {
   queue = queue;
   is_there = slice_get_read queues (length queues) i queue refl inside is;

@@ -5,18 +5,18 @@ use Rattle.dash_script.specs.declared.refusal.Cause.{Cause}
 use Rattle.dash_script.specs.declared.refusal.Cause.TheVariants.{Form, Range, Unknown, Order, TooMany, Missing}
 
 -- the word for a cause
-abbrev pub word : Cause → List ℕ
-word Form = codes "form"
-word Range = codes "range"
-word Unknown = codes "unknown"
-word Order = codes "order"
-word TooMany = codes "toomany"
-word Missing = codes "missing"
+abbrev pub cause_name : Cause → List ℕ
+cause_name Form = codes "form"
+cause_name Range = codes "range"
+cause_name Unknown = codes "unknown"
+cause_name Order = codes "order"
+cause_name TooMany = codes "toomany"
+cause_name Missing = codes "missing"
 
 -- a cause behind a line's number, where one is told
 abbrev pub behind_line : Option Cause → List ℕ
 behind_line None = 10 ∷ []
-behind_line (Some c) = codes ": " ++ word c ++ 10 ∷ []
+behind_line (Some c) = codes ": " ++ cause_name c ++ 10 ∷ []
 
 -- the line and the cause, as the program that reads the input tells them
 abbrev pub script_head : ℕ → Option Cause → List ℕ

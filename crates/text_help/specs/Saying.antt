@@ -25,10 +25,10 @@ is_without (said.Bad line cause text) = false
 is_without said.NoMemory = true
 
 -- the line that is said to be bad, and the cause where the reader tells one
-abbrev pub bad_line : Said → Option (ℕ × Option Cause)
-bad_line (said.Good text) = None
-bad_line (said.Bad line cause text) = Some (line, cause)
-bad_line said.NoMemory = None
+abbrev pub said_bad_line : Said → Option (ℕ × Option Cause)
+said_bad_line (said.Good text) = None
+said_bad_line (said.Bad line cause text) = Some (line, cause)
+said_bad_line said.NoMemory = None
 
 -- an input is said to be good only where it is the text of something
 abbrev pub GoodOnly : {T : Type 0} → (List ℕ → T → Type 0) → Said → List ℕ → Type 0
@@ -41,12 +41,12 @@ GoodAll {T} IsText s b = (t : T) → IsText b t → (is_good s ≡ true) ⊎ (is
 -- a line is said to be bad only where it is refused, and for that cause
 abbrev pub BadOnly : {C : Type 0} → (C → Option Cause) → (List ℕ → ℕ → C → Type 0) → Said → List ℕ → Type 0
 BadOnly {C} told IsRefusal s b =
-    (line : ℕ) (c : Option Cause) → bad_line s ≡ Some (line, c) → (cause : C) × (c ≡ told cause) × IsRefusal b line cause
+    (line : ℕ) (c : Option Cause) → said_bad_line s ≡ Some (line, c) → (cause : C) × (c ≡ told cause) × IsRefusal b line cause
 
 -- and always then, unless memory ran out
 abbrev pub BadAll : {C : Type 0} → (C → Option Cause) → (List ℕ → ℕ → C → Type 0) → Said → List ℕ → Type 0
 BadAll {C} told IsRefusal s b =
-    (line : ℕ) (cause : C) → IsRefusal b line cause → (bad_line s ≡ Some (line, told cause)) ⊎ (is_without s ≡ true)
+    (line : ℕ) (cause : C) → IsRefusal b line cause → (said_bad_line s ≡ Some (line, told cause)) ⊎ (is_without s ≡ true)
 
 -- a reader of reports tells no cause
 abbrev pub no_cause : Unit {0} → Option Cause
@@ -54,7 +54,7 @@ no_cause _ = None
 
 -- the line is the least bad one of a report
 abbrev pub IsReportRefusal : List ℕ → ℕ → Unit {0} → Type 0
-IsReportRefusal b line _ = reports.IsLeastBad b line
+IsReportRefusal b line _ = reports.IsLeastBadOfReport b line
 
 -- what is said of a bad input begins with its line, and with the cause where one is told
 abbrev pub BeginsWithHead : (ℕ → Option Cause → List ℕ) → Said → Type 0

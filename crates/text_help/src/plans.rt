@@ -1,6 +1,6 @@
 //! What is said of a plan of values.
 ghost use Rattle.std.specs.Prelude.{◌≡◌, IfOk, Some, string_bytes};
-ghost use Rattle.value_animator.specs.Reading.{IsText, IsRefusal};
+ghost use Rattle.value_animator.specs.Reading.{IsPlanText, IsPlanRefusal};
 ghost use Rattle.text_help.specs.Heads.{BeginsWith, plan_head};
 ghost use Rattle.text_help.specs.Saying.{BeginsWithHead, BadAll, BadOnly, GoodAll, GoodOnly, IsSaidOfPlan};
 
@@ -58,10 +58,10 @@ enum Next {
 /// What is said of a text that is to be a plan of values: `Good` exactly where it is one, and else `Bad` with the line and the cause
 /// by which it is refused; the text begins with these. `NoMemory` where there was none.
 pub fn explain_plan(alloc: Global, bytes: &[u8]) -> Said
-    ensures good { GoodOnly IsText result bytes.now }
-    ensures all_good { GoodAll IsText result bytes.now }
-    ensures bad { BadOnly Some IsRefusal result bytes.now }
-    ensures all_bad { BadAll Some IsRefusal result bytes.now }
+    ensures good { GoodOnly IsPlanText result bytes.now }
+    ensures all_good { GoodAll IsPlanText result bytes.now }
+    ensures bad { BadOnly Some IsPlanRefusal result bytes.now }
+    ensures all_bad { BadAll Some IsPlanRefusal result bytes.now }
     ensures begins { BeginsWithHead plan_head result }
 {
     let parsed = parse_values(alloc, bytes);

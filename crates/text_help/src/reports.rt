@@ -1,6 +1,6 @@
 //! What is said of a report.
 ghost use Rattle.std.specs.Prelude.{◌≡◌, IfOk, None, string_bytes};
-ghost use Rattle.run_picture.specs.Text.{IsText};
+ghost use Rattle.run_picture.specs.Text.{IsReportText};
 ghost use Rattle.text_help.specs.Heads.{BeginsWith, report_head};
 ghost use Rattle.text_help.specs.Saying.{BeginsWithHead, BadOnly, GoodAll, GoodOnly, IsReportRefusal, IsSaidOfReport, no_cause};
 
@@ -72,8 +72,8 @@ enum Told {
 /// What is said of a text that is to be a report: `Good` exactly where it is one, and else `Bad` with the line by which it is
 /// refused, and no cause; the text begins with the line. `NoMemory` where there was none.
 pub fn explain_report(alloc: Global, bytes: &[u8]) -> Said
-    ensures good { GoodOnly IsText result bytes.now }
-    ensures all_good { GoodAll IsText result bytes.now }
+    ensures good { GoodOnly IsReportText result bytes.now }
+    ensures all_good { GoodAll IsReportText result bytes.now }
     ensures bad { BadOnly no_cause IsReportRefusal result bytes.now }
     ensures begins { BeginsWithHead report_head result }
 {

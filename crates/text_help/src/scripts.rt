@@ -1,7 +1,7 @@
 //! What is said of a script.
 ghost use Rattle.std.specs.Prelude.{◌≡◌, IfOk, Some, string_bytes};
-ghost use Rattle.dash_script.specs.Accepting.{IsText, IsRefusal};
-ghost use Rattle.text_help.specs.Heads.{BeginsWith, script_head, word};
+ghost use Rattle.dash_script.specs.Accepting.{IsScriptText, IsScriptRefusal};
+ghost use Rattle.text_help.specs.Heads.{BeginsWith, script_head, cause_name};
 ghost use Rattle.text_help.specs.Saying.{BeginsWithHead, BadAll, BadOnly, GoodAll, GoodOnly, IsSaidOfScript};
 
 use crate::commands::{KINDS, kind_of, place_of, shown};
@@ -33,10 +33,10 @@ struct Declared {
 /// What is said of a text that is to be a script: `Good` exactly where it is one, and else `Bad` with the line and the cause by
 /// which it is refused; the text begins with these. `NoMemory` where there was none.
 pub fn explain_script(alloc: Global, bytes: &[u8]) -> Said
-    ensures good { GoodOnly IsText result bytes.now }
-    ensures all_good { GoodAll IsText result bytes.now }
-    ensures bad { BadOnly Some IsRefusal result bytes.now }
-    ensures all_bad { BadAll Some IsRefusal result bytes.now }
+    ensures good { GoodOnly IsScriptText result bytes.now }
+    ensures all_good { GoodAll IsScriptText result bytes.now }
+    ensures bad { BadOnly Some IsScriptRefusal result bytes.now }
+    ensures all_bad { BadAll Some IsScriptRefusal result bytes.now }
     ensures begins { BeginsWithHead script_head result }
 {
     let parsed = parse(alloc, bytes);
@@ -93,7 +93,7 @@ fn good_text(alloc: Global, script: &Script) -> Result<String, NoMemory> {
 
 /// The word for a cause.
 pub(crate) fn word_for(cause: Cause) -> &'static str
-    ensures { result.now ≡ word cause }
+    ensures { result.now ≡ cause_name cause }
 {
     match cause {
         Cause::Form => "form",

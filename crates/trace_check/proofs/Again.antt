@@ -16,7 +16,7 @@ use Rattle.loop_model.specs.declared.call.Call.TheVariants as call_of
 use Rattle.loop_model.specs.declared.reply.Reply.{Reply}
 use Rattle.loop_model.specs.declared.reply.Reply.TheVariants as reply_of
 use Rattle.loop_model.specs.declared.entry.Entry.{Entry as EntryData}
-use Rattle.line_words.specs.Words.{number_of, maybe, one_of, IsLong}
+use Rattle.line_words.specs.Words.{spelled_number, maybe, one_of, IsLong}
 use Rattle.line_words.specs.Taking.{Rest, and_then, whole, long as long_word}
 use Rattle.line_words.proofs.Spelling.{number_again}
 use Rattle.line_words.proofs.Wording.{AreWords, long_short, words_append, decimal_word, short_word, maybe_word, maybe_short_word, one_word}
@@ -24,7 +24,7 @@ use Rattle.line_words.proofs.Again.{then_again, either_again, long_again, short_
 use Rattle.trace_check.specs.declared.line.Head.{Head}
 use Rattle.trace_check.specs.declared.line.Line.{Line}
 use Rattle.trace_check.specs.declared.line.Line.TheVariants.{Title, Queue, Entry, End}
-use Rattle.trace_check.specs.Line.{FitsPost, FitsKind, FitsFilter, FitsCall, FitsReply, Fits, line_words, call_words, reply_words, kind_words, filter_words, post_words}
+use Rattle.trace_check.specs.Line.{FitsPost, FitsKind, FitsFilter, FitsCall, FitsReply, FitsLine, trace_line_words, call_words, reply_words, kind_words, filter_words, post_words}
 use Rattle.trace_check.specs.Reading as reading
 
 -- ---- more than one word
@@ -88,14 +88,14 @@ reply_again reply_of.Halted rest fit = refl
 
 -- ---- lines
 
-entry_again : (e : EntryData) → Fits (Entry e) → reading.entry (line_words (Entry e)) ≡ Some (e, [])
+entry_again : (e : EntryData) → FitsLine (Entry e) → reading.entry (trace_line_words (Entry e)) ≡ Some (e, [])
 unfolding reading.entry
 entry_again e fit =
     let y : EntryData × Rest = (e, []) in
     let last : reading.reply (reply_words e.reply) ≡ Some (e.reply, []) = ap reading.reply (sym (append-nil (reply_words e.reply))) ∙ reply_again e.reply [] fit.3 in
     then_again _ _ _ _ y (short_again e.sender _ fit.0) (then_again _ _ _ _ y (long_again e.seq _ fit.1) (then_again _ _ _ _ y (call_again e.call _ fit.2) (then_again _ _ _ _ y last refl)))
 
-head_again : (h : Head) → Fits (Queue h)
+head_again : (h : Head) → FitsLine (Queue h)
     → reading.head (decimal h.looper ∷ one_of (codes "main") (codes "side") h.main ∷ one_of (codes "lockstep") (codes "free") h.lockstep ∷ decimal h.senders ∷ decimal h.count ∷ []) ≡ Some (h, [])
 unfolding reading.head
 head_again h fit =
@@ -104,23 +104,23 @@ head_again h fit =
     (then_again _ _ _ _ y (either_again (codes "lockstep") (codes "free") h.lockstep _ refl refl refl) (then_again _ _ _ _ y (short_again h.senders _ fit.1) (then_again _ _ _ _ y (long_again h.count _ fit.2) refl))))
 
 -- a number isn't this word, which spells none
-not_word : (n : ℕ) (w : List ℕ) → IsLong n → number_of w ≡ None → bytes_eq (decimal n) w ≡ false
+not_word : (n : ℕ) (w : List ℕ) → IsLong n → spelled_number w ≡ None → bytes_eq (decimal n) w ≡ false
 not_word n w fit none =
     elim (cases_Bool (bytes_eq (decimal n) w)) [
-      | inl same ↦ absurd (none-some n (sym none ∙ sym (ap number_of ((bytes_eq-Decides (decimal n) w).0 same)) ∙ number_again n fit))
+      | inl same ↦ absurd (none-some n (sym none ∙ sym (ap spelled_number ((bytes_eq-Decides (decimal n) w).0 same)) ∙ number_again n fit))
       | inr other ↦ other
     ]
 
 -- the line of an entry begins with a number, and so with none of the words of the others
-entry_line : (e : EntryData) → Fits (Entry e) → reading.line_of (line_words (Entry e)) ≡ Some (Entry e)
-unfolding reading.line_of number_of
+entry_line : (e : EntryData) → FitsLine (Entry e) → reading.line_of (trace_line_words (Entry e)) ≡ Some (Entry e)
+unfolding reading.line_of spelled_number
 entry_line e fit =
     let long = long_short e.sender fit.0 in
     rw (not_word e.sender (codes "trace") long refl, not_word e.sender (codes "queue") long refl, not_word e.sender (codes "end") long refl)
     (ap (λ o. and_then o (λ x more. whole (Entry x) more)) (entry_again e fit))
 
-pub line_again : (l : Line) → Fits l → reading.line_of (line_words l) ≡ Some l
-unfolding reading.line_of reading.title long_word number_of digits
+pub line_again : (l : Line) → FitsLine l → reading.line_of (trace_line_words l) ≡ Some l
+unfolding reading.line_of reading.title long_word spelled_number digits
 line_again Title fit = refl
 line_again (Queue h) fit = ap (λ o. and_then o (λ x more. whole (Queue x) more)) (head_again h fit)
 line_again (Entry e) fit = entry_line e fit
@@ -162,7 +162,7 @@ reply_are reply_of.Disposed fit = ((refl, refl), tt)
 reply_are reply_of.Advanced fit = ((refl, refl), tt)
 reply_are reply_of.Halted fit = ((refl, refl), tt)
 
-pub line_are : (l : Line) → Fits l → AreWords (line_words l)
+pub line_are : (l : Line) → FitsLine l → AreWords (trace_line_words l)
 line_are Title fit = ((refl, refl), (decimal_word 1 (omega arith), tt))
 line_are (Queue h) fit =
     ((refl, refl), (short_word h.looper fit.0, (one_word (codes "main") (codes "side") h.main (refl, refl) (refl, refl), (one_word (codes "lockstep") (codes "free") h.lockstep (refl, refl) (refl, refl), (short_word h.senders fit.1, (decimal_word h.count fit.2, tt))))))

@@ -17,7 +17,7 @@ use Rattle.loop_model.specs.Entries.{ends, ends_by}
 use Rattle.loop_model.specs.Items.{is_asynchronous, token_of, is_just, is_of_kind, has_object, matches}
 use Rattle.trace_check.specs.declared.label.Shape.{Shape}
 use Rattle.trace_check.specs.declared.label.Shape.TheVariants.{Asynchronous, Token}
-use Rattle.trace_check.specs.Labels.{Label, by_label, label_of, is_label, bears, shape_by, number_by, filter_shape, filter_label}
+use Rattle.trace_check.specs.Labels.{Label, by_label, label_of, has_label, bears, shape_by, number_by, filter_shape, filter_label}
 
 same_number : (x y : ℕ) → is_eq (nat_cmp x y) ≡ (x == y)
 same_number x y = grind (arith, nat_tests)
@@ -58,15 +58,15 @@ bears_token t (Message n p) = refl
 bears_token t (SyncBarrier u w) = same_label (0, u, 0) (0, t, 0) ∙ and_true (u == t)
 
 -- the label of an object, and of a callback
-object_bears : (h n k m : ℕ) (o : Option ℕ) (w : ℕ) → is_label (option_map (λ v. (h, n, v)) o) (k, m, w) ≡ ((h == k && n == m) && is_just o w)
+object_bears : (h n k m : ℕ) (o : Option ℕ) (w : ℕ) → has_label (option_map (λ v. (h, n, v)) o) (k, m, w) ≡ ((h == k && n == m) && is_just o w)
 object_bears h n k m None w = sym (and_false (h == k && n == m))
 object_bears h n k m (Some v) w = same_label (h, n, v) (k, m, w)
 
-callback_bears : (h k c : ℕ) (o : Option ℕ) → is_label (option_map (λ v. (h, v, 0)) o) (k, c, 0) ≡ ((h == k && is_just o c) && true)
+callback_bears : (h k c : ℕ) (o : Option ℕ) → has_label (option_map (λ v. (h, v, 0)) o) (k, c, 0) ≡ ((h == k && is_just o c) && true)
 callback_bears h k c None = sym (and_true (h == k && false) ∙ and_false (h == k))
 callback_bears h k c (Some v) = same_label (h, v, 0) (k, c, 0)
 
-both_bear : (h k c : ℕ) (o r : Option ℕ) (w : ℕ) → is_label (option_and_then (λ v. option_map (λ u. (h, v, u)) r) o) (k, c, w) ≡ ((h == k && is_just o c) && is_just r w)
+both_bear : (h k c : ℕ) (o r : Option ℕ) (w : ℕ) → has_label (option_and_then (λ v. option_map (λ u. (h, v, u)) r) o) (k, c, w) ≡ ((h == k && is_just o c) && is_just r w)
 both_bear h k c None r w = sym (ap (λ b. b && is_just r w) (and_false (h == k)))
 both_bear h k c (Some v) r w = object_bears h v k c r w
 

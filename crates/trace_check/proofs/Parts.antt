@@ -7,7 +7,7 @@ use Rattle.loop_model.specs.declared.entry.Entry.{Entry as EntryData}
 use Rattle.loop_model.specs.declared.segment.Segment.{Segment}
 use Rattle.loop_model.specs.Chain.{entries_of}
 use Rattle.trace_check.specs.declared.line.Line.TheVariants.{Entry}
-use Rattle.trace_check.specs.Text.{line_text}
+use Rattle.trace_check.specs.Text.{trace_line_text}
 
 -- with one part more
 pub parts_taken : (ps : List Segment) (i : ℕ) (d : Segment) → i < length ps → entries_of (take (i + 1) ps) ≡ entries_of (take i ps) ++ (get_or ps i d).entries
@@ -19,7 +19,7 @@ parts_taken (p ∷ ps) (suc i) d l =
 
 -- the lines of entries, one list behind the other
 pub entry_lines_more : (out : List ℕ) (es more : List EntryData)
-    → (out ++ flat_map line_text (map Entry es)) ++ flat_map line_text (map Entry more) ≡ out ++ flat_map line_text (map Entry (es ++ more))
+    → (out ++ flat_map trace_line_text (map Entry es)) ++ flat_map trace_line_text (map Entry more) ≡ out ++ flat_map trace_line_text (map Entry (es ++ more))
 entry_lines_more out es more =
-    append_assoc out (flat_map line_text (map Entry es)) (flat_map line_text (map Entry more))
-    ∙ ap (λ l. out ++ l) (sym (flat_map-append line_text (map Entry es) (map Entry more)) ∙ ap (flat_map line_text) (sym (map-append Entry es more)))
+    append_assoc out (flat_map trace_line_text (map Entry es)) (flat_map trace_line_text (map Entry more))
+    ∙ ap (λ l. out ++ l) (sym (flat_map-append trace_line_text (map Entry es) (map Entry more)) ∙ ap (flat_map trace_line_text) (sym (map-append Entry es more)))

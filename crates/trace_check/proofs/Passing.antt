@@ -15,7 +15,7 @@ use Rattle.loop_model.specs.Base.{empty_base}
 use Rattle.loop_model.specs.Chain.{after}
 use Rattle.loop_model.specs.Live.{live, live_in_order}
 use Rattle.loop_model.specs.Pick.{first_eligible, pick}
-use Rattle.loop_model.specs.Legal.{IsTimely, MayFollow, made_count, IsNextOfSender}
+use Rattle.loop_model.specs.Legal.{CallFitsTime, MayFollow, made_count, IsNextOfSender}
 use Rattle.loop_model.specs.Listed.{listed_answer, next_base}
 use Rattle.loop_model.proofs.AfterLaws.{after-fold}
 use Rattle.loop_model.proofs.PlainLaws.{fold_answers, fold_items}
@@ -26,14 +26,14 @@ use Rattle.trace_check.specs.declared.checker.Checked.TheVariants as checked
 use Rattle.trace_check.specs.Ranks.{AreApart}
 use Rattle.loop_model.specs.Counters.{setting}
 use Rattle.trace_check.specs.Checking.{IsCheckedFirst, AllFirst, AllLegal, Follows, IsFault, IsFaultAfter, IsFaultBy, IsSenderFault}
-use Rattle.trace_check.specs.Good.{setting_of, IsGood, IsFirstBad}
+use Rattle.trace_check.specs.Good.{trace_setting, IsGood, IsFirstBad}
 use Rattle.trace_check.specs.declared.fault.Fault.{Fault}
 use Rattle.trace_check.specs.declared.fault.Fault.TheVariants as fault
 
 -- ---- one entry
 
 -- the reply hangs neither on how many senders there are
-listed_same : (q : TraceQueue) (b : Base) (c : Call) → listed_answer (setting q.main q.lockstep) b c ≡ listed_answer (setting_of q) b c
+listed_same : (q : TraceQueue) (b : Base) (c : Call) → listed_answer (setting q.main q.lockstep) b c ≡ listed_answer (trace_setting q) b c
 unfolding listed_answer
 listed_same q b (Post p) = refl
 listed_same q b (Barrier now) = refl
@@ -56,8 +56,8 @@ answer_same s n es (Next now) = refl
 answer_same s n es (Advance now) = refl
 answer_same s n es (Halt now) = refl
 
-reply_is : (q : TraceQueue) (es : List Entry) (c : Call) → listed_answer (setting q.main q.lockstep) (fold next_base (empty_base 0) es) c ≡ answer (setting_of q) (empty_base q.senders) es c
-reply_is q es c = listed_same q (fold next_base (empty_base 0) es) c ∙ fold_answers (setting_of q) es c ∙ answer_same (setting_of q) q.senders es c
+reply_is : (q : TraceQueue) (es : List Entry) (c : Call) → listed_answer (setting q.main q.lockstep) (fold next_base (empty_base 0) es) c ≡ answer (trace_setting q) (empty_base q.senders) es c
+reply_is q es c = listed_same q (fold next_base (empty_base 0) es) c ∙ fold_answers (trace_setting q) es c ∙ answer_same (trace_setting q) q.senders es c
 
 clock_same : (n : ℕ) (es : List Entry) → clock (empty_base 0) es ≡ clock (empty_base n) es
 unfolding clock
@@ -84,30 +84,30 @@ record Kept (q : TraceQueue) (b : Base) (made : ℕ → ℕ) (es : List Entry) :
   pub counts : (sender : ℕ) → made sender ≡ count_by (λ e. e.sender == sender) es
 
 may_follow : (q : TraceQueue) (b : Base) (made : ℕ → ℕ) (es : List Entry) (e : Entry) → Kept q b made es → Follows q b (made e.sender) e
-    → MayFollow (setting_of q) (empty_base q.senders) es e × IsNextOfSender (setting_of q) (empty_base q.senders) es e
+    → MayFollow (trace_setting q) (empty_base q.senders) es e × IsNextOfSender (trace_setting q) (empty_base q.senders) es e
 may_follow q b made es e k f =
     let reply = subst (λ x. listed_answer (setting q.main q.lockstep) x e.call ≡ Some e.reply) k.base f.reply in
-    let timely = subst (λ x. IsTimely q.lockstep x.time e.call) k.base f.timely in (
-      record { reply = sym (reply_is q es e.call) ∙ reply; timely = subst (λ t. IsTimely q.lockstep t e.call) (time_is q es) timely },
+    let timely = subst (λ x. CallFitsTime q.lockstep x.time e.call) k.base f.timely in (
+      record { reply = sym (reply_is q es e.call) ∙ reply; timely = subst (λ t. CallFitsTime q.lockstep t e.call) (time_is q es) timely },
       record { known = f.numbered.known; counted = f.numbered.counted ∙ k.counts e.sender ∙ sym (count_is q es e.sender); controller = f.numbered.controller },
     )
 
-follows : (q : TraceQueue) (b : Base) (made : ℕ → ℕ) (es : List Entry) (e : Entry) → Kept q b made es → MayFollow (setting_of q) (empty_base q.senders) es e → IsNextOfSender (setting_of q) (empty_base q.senders) es e
+follows : (q : TraceQueue) (b : Base) (made : ℕ → ℕ) (es : List Entry) (e : Entry) → Kept q b made es → MayFollow (trace_setting q) (empty_base q.senders) es e → IsNextOfSender (trace_setting q) (empty_base q.senders) es e
     → Follows q b (made e.sender) e
 follows q b made es e k m n =
     record {
       reply = subst (λ x. listed_answer (setting q.main q.lockstep) x e.call ≡ Some e.reply) (sym k.base) (reply_is q es e.call ∙ m.reply);
-      timely = subst (λ x. IsTimely q.lockstep x.time e.call) (sym k.base) (subst (λ t. IsTimely q.lockstep t e.call) (sym (time_is q es)) m.timely);
+      timely = subst (λ x. CallFitsTime q.lockstep x.time e.call) (sym k.base) (subst (λ t. CallFitsTime q.lockstep t e.call) (sym (time_is q es)) m.timely);
       numbered = record { known = n.known; counted = n.counted ∙ count_is q es e.sender ∙ sym (k.counts e.sender); controller = n.controller };
     }
 
 -- ---- a beginning of a history
 
 pub good_none : (q : TraceQueue) → IsGood q []
-good_none q = (IsLegal-none (setting_of q) (empty_base q.senders), AreNumbered-none (setting_of q) (empty_base q.senders))
+good_none q = (IsLegal-none (trace_setting q) (empty_base q.senders), AreNumbered-none (trace_setting q) (empty_base q.senders))
 
 good_front : (q : TraceQueue) (es fs : List Entry) → IsGood q (es ++ fs) → IsGood q es
-good_front q es fs g = (IsLegal-front (setting_of q) (empty_base q.senders) es fs g.0, AreNumbered-front (setting_of q) (empty_base q.senders) es fs g.1)
+good_front q es fs g = (IsLegal-front (trace_setting q) (empty_base q.senders) es fs g.0, AreNumbered-front (trace_setting q) (empty_base q.senders) es fs g.1)
 
 take_take : (i j : ℕ) (es : List Entry) → i ≤ j → j ≤ length es → take i es ≡ take i (take j es)
 take_take i j es le within =
@@ -129,8 +129,8 @@ good_more : (q : TraceQueue) (b : Base) (made : ℕ → ℕ) (i : ℕ) (d : Entr
 good_more q b made i d lt base counts good f =
     let m = may_follow q b made (take i q.entries) (get_or q.entries i d) (record { base = base; counts = counts }) f in
     subst (IsGood q) (sym (take_more q.entries i d lt)) (
-      IsLegal-snoc (setting_of q) (empty_base q.senders) (take i q.entries) (get_or q.entries i d) good.0 m.0,
-      AreNumbered-snoc (setting_of q) (empty_base q.senders) (take i q.entries) (get_or q.entries i d) good.1 m.1,
+      IsLegal-snoc (trace_setting q) (empty_base q.senders) (take i q.entries) (get_or q.entries i d) good.0 m.0,
+      AreNumbered-snoc (trace_setting q) (empty_base q.senders) (take i q.entries) (get_or q.entries i d) good.1 m.1,
     )
 
 bad_more : (q : TraceQueue) (b : Base) (made : ℕ → ℕ) (i : ℕ) (d : Entry) → i < length q.entries → b ≡ fold next_base (empty_base 0) (take i q.entries)
@@ -138,8 +138,8 @@ bad_more : (q : TraceQueue) (b : Base) (made : ℕ → ℕ) (i : ℕ) (d : Entry
     → IsGood q (take (i + 1) q.entries) → ⊥
 bad_more q b made i d lt base counts no_ good =
     let g = subst (IsGood q) (take_more q.entries i d lt) good in
-    let m = IsLegal-last (setting_of q) (empty_base q.senders) (take i q.entries) (get_or q.entries i d) g.0 in
-    let n = AreNumbered-last (setting_of q) (empty_base q.senders) (take i q.entries) (get_or q.entries i d) g.1 in
+    let m = IsLegal-last (trace_setting q) (empty_base q.senders) (take i q.entries) (get_or q.entries i d) g.0 in
+    let n = AreNumbered-last (trace_setting q) (empty_base q.senders) (take i q.entries) (get_or q.entries i d) g.1 in
     no_ (follows q b made (take i q.entries) (get_or q.entries i d) (record { base = base; counts = counts }) m n)
 
 base_more : (q : TraceQueue) (b n : Base) (i : ℕ) (d : Entry) → i < length q.entries → b ≡ fold next_base (empty_base 0) (take i q.entries) → n ≡ next_base b (get_or q.entries i d)
@@ -188,7 +188,7 @@ after_items b es = refl
 pub apart_of : (q : TraceQueue) (b : Base) (es : List Entry) → b ≡ fold next_base (empty_base 0) es → IsGood q es → AreApart b.items
 apart_of q b es base good =
     let start = empty_base q.senders in
-    let known = AreNumbered-known (setting_of q) start es (length-replicate {A = ℕ} q.senders 0) good.1 in
+    let known = AreNumbered-known (trace_setting q) start es (length-replicate {A = ℕ} q.senders 0) good.1 in
     let formed = after_well_formed start es known (empty_well_formed q.senders) in
     let items : (after start es).items ≡ b.items = after_items start es ∙ sym (live_same q.senders es) ∙ sym (fold_items es) ∙ ap (λ x. x.items) (sym base) in
     subst AreApart items formed.distinct
@@ -230,7 +230,7 @@ fault_bad q b m e fault.Control h g = h.5 (g.numbered.controller h.4)
 
 fault_after : (q : TraceQueue) (b : Base) (made : ℕ → ℕ) (es : List Entry) (e : Entry) (f : Fault) → Kept q b made es → IsFault q (listed_answer (setting q.main q.lockstep) b e.call) b.time (made e.sender) e f → IsFaultAfter q es e f
 fault_after q b made es e f k h =
-    let reply : listed_answer (setting q.main q.lockstep) b e.call ≡ answer (setting_of q) (empty_base q.senders) es e.call = ap (λ x. listed_answer (setting q.main q.lockstep) x e.call) k.base ∙ reply_is q es e.call in
+    let reply : listed_answer (setting q.main q.lockstep) b e.call ≡ answer (trace_setting q) (empty_base q.senders) es e.call = ap (λ x. listed_answer (setting q.main q.lockstep) x e.call) k.base ∙ reply_is q es e.call in
     let time : b.time ≡ clock (empty_base q.senders) es = ap (λ x. x.time) k.base ∙ time_is q es in
     let count : made e.sender ≡ made_count (empty_base q.senders) es e.sender = k.counts e.sender ∙ sym (count_is q es e.sender) in
     subst (λ r. IsFault q r (clock (empty_base q.senders) es) (made_count (empty_base q.senders) es e.sender) e f) reply
@@ -246,7 +246,7 @@ fault_at q b made i d c xs m f e me lt base counts h =
     let there = fault_after q b made (take i q.entries) (get_or xs i d) f (record { base = base; counts = counts }) here in
     subst (λ y. IsFaultAfter q (take i q.entries) y f) (get_or_default xs i d c lt ∙ ap (λ x. get_or x i c) e) there
 
-pub fault_by : (q : TraceQueue) (b : Base) (made : ℕ) (e : Entry) (o : Option Fault) → listed_answer (setting q.main q.lockstep) b e.call ≡ Some e.reply → IsTimely q.lockstep b.time e.call
+pub fault_by : (q : TraceQueue) (b : Base) (made : ℕ) (e : Entry) (o : Option Fault) → listed_answer (setting q.main q.lockstep) b e.call ≡ Some e.reply → CallFitsTime q.lockstep b.time e.call
     → IsSenderFault o q made e → IsFaultBy o q b made e
 fault_by q b made e None reply timely h = record { reply = reply; timely = timely; numbered = h }
 fault_by q b made e (Some f) reply timely h = subst (λ wanted. IsFault q wanted b.time made e f) (sym reply) (h b.time timely)

@@ -27,7 +27,7 @@ use Rattle.loop_model.proofs.CallLaws.{kept_by-dispatched_at}
 use Rattle.loop_model.proofs.WellFormedLaws.{AreDistinct-from_pairs, All_recursive}
 use Rattle.trace_check.specs.declared.items.Items.{Items}
 use Rattle.trace_check.specs.declared.shelf.Shelf.{Shelf}
-use Rattle.trace_check.specs.Ranks.{AreApart, AreIndexed, IsOneEnded, IsRanked, StandsAt, listed}
+use Rattle.trace_check.specs.Ranks.{AreApart, AreIndexed, IsOneEnded, IsRanked, StandsAtRank, listed}
 use Rattle.trace_check.specs.Shelves.{by_rank, keys_passing, ranks_at, ranks_with, ranks_without, shelf_of, AreBare, AreShelved}
 use Rattle.trace_check.proofs.Indexed.{put_passing, put_failing, take_passing, take_failing, first_passing, none_passing}
 use Rattle.trace_check.proofs.Shelved.{by_rank_total}
@@ -138,12 +138,12 @@ found_in Q p (d ∷ es) e all h = by (λ there. found_in Q p es e all.1 there) (
     by rest false t = let there : find (λ c. p c.1) es ≡ Some e = sym (rw t refl) ∙ h in rest there
 
 -- what is found stands there
-pub known_found : (s : Items) (p : Item → Bool) (o : Option ((ℕ × ℕ) × Item)) → AreIndexed s → o ≡ find (λ e. p e.1) s.by_rank.entries → IfSome o (StandsAt s)
+pub known_found : (s : Items) (p : Item → Bool) (o : Option ((ℕ × ℕ) × Item)) → AreIndexed s → o ≡ find (λ e. p e.1) s.by_rank.entries → IfSome o (StandsAtRank s)
 known_found s p None indexed h = tt
-known_found s p (Some e) indexed h = found_in (StandsAt s) p s.by_rank.entries e (All_recursive (StandsAt s) s.by_rank.entries (All-found by_rank_total s.by_rank indexed.ordered)) (sym h)
+known_found s p (Some e) indexed h = found_in (StandsAtRank s) p s.by_rank.entries e (All_recursive (StandsAtRank s) s.by_rank.entries (All-found by_rank_total s.by_rank indexed.ordered)) (sym h)
 
 -- one that is found by the test is one that the entry ends
-pub one_from : (s : Items) (e : Entry) (o : Option ((ℕ × ℕ) × Item)) → option_map (λ r. r.1) o ≡ find (ends e) (listed s) → IfSome o (StandsAt s) → IsOneEnded s e o
+pub one_from : (s : Items) (e : Entry) (o : Option ((ℕ × ℕ) × Item)) → option_map (λ r. r.1) o ≡ find (ends e) (listed s) → IfSome o (StandsAtRank s) → IsOneEnded s e o
 one_from s e None found known = sym found
 one_from s e (Some r) found known = (known, find_passes (ends e) (listed s) r.1 (sym found))
 

@@ -23,7 +23,7 @@ use Rattle.line_words.proofs.Taken.{Any, parted, word_parted, word_then, RowTake
 use Rattle.trace_check.specs.declared.line.Head.{Head}
 use Rattle.trace_check.specs.declared.line.Line.{Line}
 use Rattle.trace_check.specs.declared.line.Line.TheVariants.{Title, Queue, Entry, End}
-use Rattle.trace_check.specs.Line.{FitsPost, FitsKind, FitsFilter, FitsCall, FitsReply, Fits, line_words, call_words, reply_words, kind_words, filter_words, post_words}
+use Rattle.trace_check.specs.Line.{FitsPost, FitsKind, FitsFilter, FitsCall, FitsReply, FitsLine, trace_line_words, call_words, reply_words, kind_words, filter_words, post_words}
 use Rattle.trace_check.specs.Reading as reading
 
 -- words that were read, which are spelled so and within these limits
@@ -184,7 +184,7 @@ reply_taken = named_taken reply_words FitsReply reading.reply_by (rows_taken rep
 -- ---- lines
 
 abbrev LineTaken : Rest → Line × Rest → Type 0
-LineTaken ws y = Fits y.0 × (ws ≡ line_words y.0 ++ y.1)
+LineTaken ws y = FitsLine y.0 × (ws ≡ trace_line_words y.0 ++ y.1)
 
 entry_taken : (ws : Rest) (y : EntryData × Rest) → reading.entry ws ≡ Some y → LineTaken ws (Entry y.0, y.1)
 unfolding reading.entry
@@ -200,7 +200,7 @@ entry_taken ws y e =
     let made : EntryData = record { sender = p0.0.0; seq = p1.0.0; call = p2.0.0; reply = p3.0.0 } in
     let front = call_words made.call in
     let back = reply_words made.reply in
-    let words : ws ≡ line_words (Entry made) ++ p3.0.1 =
+    let words : ws ≡ trace_line_words (Entry made) ++ p3.0.1 =
     t0.1 ∙ ap (λ r. decimal made.sender ∷ r) (t1.1 ∙ ap (λ r. decimal made.seq ∷ r) (t2.1 ∙ ap (λ r. front ++ r) t3.1 ∙ sym (append_assoc front back p3.0.1))) in
     subst (λ (z : EntryData × Rest). LineTaken ws (Entry z.0, z.1)) (same_Some (made, p3.0.1) y p3.2) ((t0.0, t1.0, t2.0, t3.0), words)
 
@@ -214,7 +214,7 @@ head_taken rest y e =
     word_then decimal IsShort taking.short short_taken P r2 _ y e2 (λ d r3 h3 w3 e3.
     word_then decimal IsLong taking.long long_taken P r3 _ y e3 (λ n r4 h4 w4 e4.
     let made : Head = record { looper = a; main = b; lockstep = c; senders = d; count = n } in
-    let words : codes "queue" ∷ rest ≡ line_words (Queue made) ++ r4 =
+    let words : codes "queue" ∷ rest ≡ trace_line_words (Queue made) ++ r4 =
     ap (λ r. codes "queue" ∷ r) (w0 ∙ ap (λ r. decimal a ∷ r) (w1 ∙ ap (λ r. one_of (codes "main") (codes "side") b ∷ r) (w2 ∙ ap (λ r. one_of (codes "lockstep") (codes "free") c ∷ r) (w3 ∙ ap (λ r. decimal d ∷ r) w4)))) in
     subst (λ (z : Head × Rest). LineTaken (codes "queue" ∷ rest) (Queue z.0, z.1)) (same_Some (made, r4) y e4) ((h0, h3, h4), words))))))
 
@@ -234,12 +234,12 @@ title_taken rest y e =
     subst (LineTaken (codes "trace" ∷ rest)) v.1 (tt, ap (λ r. codes "trace" ∷ r) (t.1 ∙ ap (λ n. decimal n ∷ p.0.1) v.0))
 
 -- nothing is left behind the words of a line
-whole_taken : (ws : Rest) (made : Line) (rest : Rest) (l : Line) → whole made rest ≡ Some l → LineTaken ws (made, rest) → Fits l × (ws ≡ line_words l)
-whole_taken ws made [] l e t = subst (λ k. Fits k × (ws ≡ line_words k)) (same_Some made l e) (t.0, t.1 ∙ append-nil (line_words made))
+whole_taken : (ws : Rest) (made : Line) (rest : Rest) (l : Line) → whole made rest ≡ Some l → LineTaken ws (made, rest) → FitsLine l × (ws ≡ trace_line_words l)
+whole_taken ws made [] l e t = subst (λ k. FitsLine k × (ws ≡ trace_line_words k)) (same_Some made l e) (t.0, t.1 ∙ append-nil (trace_line_words made))
 whole_taken ws made (w ∷ rest) l e t = absurd (none-some l e)
 
 abbrev IsTaken : Rest → Line → Type 0
-IsTaken ws l = Fits l × (ws ≡ line_words l)
+IsTaken ws l = FitsLine l × (ws ≡ trace_line_words l)
 
 entry_whole : (ws : Rest) (l : Line) → and_then (reading.entry ws) (λ e more. whole (Entry e) more) ≡ Some l → IsTaken ws l
 entry_whole ws l e =
@@ -276,7 +276,7 @@ by_taken first rest l e =
     ]
 
 -- a line that is read has these words, with numbers within their limits
-pub line_taken : (ws : Rest) (l : Line) → reading.line_of ws ≡ Some l → Fits l × (ws ≡ line_words l)
+pub line_taken : (ws : Rest) (l : Line) → reading.line_of ws ≡ Some l → FitsLine l × (ws ≡ trace_line_words l)
 unfolding reading.line_of
 line_taken [] l e = absurd (none-some l e)
 line_taken (first ∷ rest) l e = by_taken first rest l e

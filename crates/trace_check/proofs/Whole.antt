@@ -24,35 +24,35 @@ use Rattle.trace_check.specs.declared.draft.Draft.{Draft}
 use Rattle.trace_check.specs.declared.trace.Trace.{Trace}
 use Rattle.trace_check.specs.declared.trace.ParsedTrace.TheVariants as parsed
 use Rattle.std.specs.List.{join_with_byte}
-use Rattle.line_words.specs.Words.{words, number_of}
+use Rattle.line_words.specs.Words.{words, spelled_number}
 use Rattle.line_words.specs.Taking.{short, long}
-use Rattle.trace_check.specs.Line.{line_words, Fits}
-use Rattle.trace_check.specs.Text.{head_of, queue_lines, lines, line_text, IsLeastBad, IsText}
+use Rattle.trace_check.specs.Line.{trace_line_words, FitsLine}
+use Rattle.trace_check.specs.Text.{queue_head, queue_lines, trace_lines, trace_line_text, IsLeastBadOfTrace, IsTraceText}
 use Rattle.trace_check.specs.Reading.{line_of, entry}
-use Rattle.trace_check.specs.Progress.{blank, opened, start, settled, with_entry, after_part, next, is_end, trace_so_far, reading, traces}
+use Rattle.trace_check.specs.Progress.{blank, opened, start, settled, queue_with_entry, after_part, next, is_trace_end, trace_so_far, reading, trace_language}
 use Rattle.line_words.proofs.Wording.{AreWords, words_again, words_taken, no_feed_within}
 use Rattle.trace_check.proofs.Taken.{line_taken}
 use Rattle.trace_check.proofs.Again.{line_again, line_are}
 
 abbrev AllFits : List Line → Type 0
-AllFits ls = AllByRecursion Fits ls
+AllFits ls = AllByRecursion FitsLine ls
 
 -- ---- one line
 
 -- the bytes of a line, without its line feed
 abbrev bytes_of : Line → List ℕ
-bytes_of l = join_with_byte 32 (line_words l)
+bytes_of l = join_with_byte 32 (trace_line_words l)
 
-fed : (l : Line) → line_text l ≡ bytes_of l ++ 10 ∷ []
-unfolding line_text
+fed : (l : Line) → trace_line_text l ≡ bytes_of l ++ 10 ∷ []
+unfolding trace_line_text
 fed l = refl
 
-words_said : (l : Line) (w : List ℕ) (ws : List (List ℕ)) → line_words l ≡ w ∷ ws → Fits l → line_of (words (bytes_of l)) ≡ Some l
+words_said : (l : Line) (w : List ℕ) (ws : List (List ℕ)) → trace_line_words l ≡ w ∷ ws → FitsLine l → line_of (words (bytes_of l)) ≡ Some l
 words_said l w ws e fit =
     let all : AreWords (w ∷ ws) = subst AreWords e (line_are l fit) in
     ap (λ v. line_of (words (join_with_byte 32 v))) e ∙ ap line_of (words_again w ws all) ∙ ap line_of (sym e) ∙ line_again l fit
 
-read_again : (l : Line) → Fits l → line_of (words (bytes_of l)) ≡ Some l
+read_again : (l : Line) → FitsLine l → line_of (words (bytes_of l)) ≡ Some l
 read_again Title fit = words_said Title _ _ refl fit
 read_again (Queue h) fit = words_said (Queue h) _ _ refl fit
 read_again (Entry e) fit = words_said (Entry e) _ _ refl fit
@@ -62,7 +62,7 @@ read_again End fit = words_said End _ _ refl fit
 
 -- a queue that has entries to come
 abbrev open_lines : Draft → List Line
-open_lines d = Queue (head_of d.current (length d.current.entries + d.left)) ∷ map Entry d.current.entries
+open_lines d = Queue (queue_head d.current (length d.current.entries + d.left)) ∷ map Entry d.current.entries
 
 abbrev current_lines : Draft → List Line
 current_lines d = cond (eqb d.left 0) [] (open_lines d)
@@ -90,7 +90,7 @@ settled_lines d body =
           let is : settled d ≡ e = rw none refl in
           let left : d.left ≡ 0 = eqb-true d.left 0 none in
           let count : length d.current.entries + d.left ≡ length d.current.entries = omega (arith, left) in
-          let last : queue_lines d.current ++ [] ≡ open_lines d = append-nil (queue_lines d.current) ∙ ap (λ n. Queue (head_of d.current n) ∷ map Entry d.current.entries) (sym count) in
+          let last : queue_lines d.current ++ [] ≡ open_lines d = append-nil (queue_lines d.current) ∙ ap (λ n. Queue (queue_head d.current n) ∷ map Entry d.current.entries) (sym count) in
           let whole : front_lines e ++ current_lines e ≡ front_lines d ++ open_lines d =
           rw none (append-nil (front_lines e) ∙ ap (λ ls. Title ∷ ls) (flat_map-append queue_lines d.queues (d.current ∷ [])) ∙ ap (λ ls. front_lines d ++ ls) last) in
           subst (λ (x : Draft). (so_far x.part x ≡ front_lines d ++ open_lines d) × IsSound x.part x) (sym is) (rw body (whole, tt))
@@ -118,7 +118,7 @@ queues_grow d e (Queue head) ls body is h =
     let made : Draft = record d { current = opened head; left = head.count } in
     let s = settled_lines made body in
     let count : 0 + head.count ≡ head.count = omega arith in
-    let lines_are : ls ++ Queue head ∷ [] ≡ so_far (settled made).part (settled made) = ap (λ x. x ++ Queue head ∷ []) is ∙ ap (λ n. front_lines d ++ Queue (head_of (opened head) n) ∷ []) (sym count) ∙ sym s.0 in
+    let lines_are : ls ++ Queue head ∷ [] ≡ so_far (settled made).part (settled made) = ap (λ x. x ++ Queue head ∷ []) is ∙ ap (λ n. front_lines d ++ Queue (queue_head (opened head) n) ∷ []) (sym count) ∙ sym s.0 in
     subst (Grown ls (Queue head)) (same_Some (settled made) e h) (lines_are, s.1)
 queues_grow d e (Entry x) ls body is h = absurd (none-some e h)
 queues_grow d e End ls body is h =
@@ -130,13 +130,13 @@ entries_grow d e Title ls body some is h = absurd (none-some e (rw some at h))
 entries_grow d e (Queue x) ls body some is h = absurd (none-some e (rw some at h))
 entries_grow d e End ls body some is h = absurd (none-some e (rw some at h))
 entries_grow d e (Entry x) ls body some is h =
-    let made : Draft = record d { current = with_entry d.current x; left = d.left - 1 } in
+    let made : Draft = record d { current = queue_with_entry d.current x; left = d.left - 1 } in
     let s = settled_lines made body in
     let positive = eqb-false d.left 0 some in
     let count : length (d.current.entries ++ x ∷ []) + (d.left - 1) ≡ length d.current.entries + d.left = omega (arith, positive, length-append d.current.entries (x ∷ [])) in
-    let head = Queue (head_of d.current (length d.current.entries + d.left)) in
+    let head = Queue (queue_head d.current (length d.current.entries + d.left)) in
     let opened_are : open_lines made ≡ open_lines d ++ Entry x ∷ [] =
-    ap (λ n. Queue (head_of d.current n) ∷ map Entry (d.current.entries ++ x ∷ [])) count ∙ ap (λ es. head ∷ es) (map-append Entry d.current.entries (x ∷ [])) in
+    ap (λ n. Queue (queue_head d.current n) ∷ map Entry (d.current.entries ++ x ∷ [])) count ∙ ap (λ es. head ∷ es) (map-append Entry d.current.entries (x ∷ [])) in
     let lines_are : ls ++ Entry x ∷ [] ≡ so_far (settled made).part (settled made) =
     ap (λ y. y ++ Entry x ∷ []) is ∙ append_assoc (front_lines d) (open_lines d) (Entry x ∷ []) ∙ ap (λ y. front_lines d ++ y) (sym opened_are) ∙ sym s.0 in
     let same : settled made ≡ e = same_Some (settled made) e (rw some at h) in
@@ -182,7 +182,7 @@ unfolding fill
 fill_fits zero = tt
 fill_fits (suc n) = ((omega arith, omega arith, omega arith, tt), fill_fits n)
 
-continues : (p : Part) (d : Draft) (ls : List Line) → ls ≡ so_far p d → Continues Fits lines ls
+continues : (p : Part) (d : Draft) (ls : List Line) → ls ≡ so_far p d → Continues FitsLine trace_lines ls
 continues part_of.Start d ls written = (record { queues = [] }, Title ∷ End ∷ [], ap (λ x. x ++ Title ∷ End ∷ []) written, (tt, (tt, tt)))
 continues part_of.End d ls written = (trace_so_far d, [], append-nil ls ∙ written, tt)
 continues part_of.Body d ls written =
@@ -195,13 +195,13 @@ continues part_of.Body d ls written =
           let q : TraceQueue = record d.current { entries = d.current.entries ++ fill d.left } in
           let t : Trace = record { queues = d.queues ++ q ∷ [] } in
           let count : length (d.current.entries ++ fill d.left) ≡ length d.current.entries + d.left = omega (arith, fill_counted d.left, length-append d.current.entries (fill d.left)) in
-          let head = Queue (head_of d.current (length d.current.entries + d.left)) in
+          let head = Queue (queue_head d.current (length d.current.entries + d.left)) in
           let last : queue_lines q ++ [] ≡ open_lines d ++ map Entry (fill d.left) =
-          append-nil (queue_lines q) ∙ ap (λ n. Queue (head_of d.current n) ∷ map Entry (d.current.entries ++ fill d.left)) count ∙ ap (λ es. head ∷ es) (map-append Entry d.current.entries (fill d.left)) in
+          append-nil (queue_lines q) ∙ ap (λ n. Queue (queue_head d.current n) ∷ map Entry (d.current.entries ++ fill d.left)) count ∙ ap (λ es. head ∷ es) (map-append Entry d.current.entries (fill d.left)) in
           let body : Title ∷ flat_map queue_lines t.queues ≡ ls ++ map Entry (fill d.left) =
           ap (λ x. Title ∷ x) (flat_map-append queue_lines d.queues (q ∷ [])) ∙ ap (λ x. front_lines d ++ x) last ∙ sym (append_assoc (front_lines d) (open_lines d) (map Entry (fill d.left))) ∙ ap (λ x. x ++ map Entry (fill d.left)) (sym lines_are) in
-          let whole : ls ++ (map Entry (fill d.left) ++ End ∷ []) ≡ lines t = sym (append_assoc ls (map Entry (fill d.left)) (End ∷ [])) ∙ ap (λ x. x ++ End ∷ []) (sym body) in
-          (t, map Entry (fill d.left) ++ End ∷ [], whole, AllByRecursion-append Fits (map Entry (fill d.left)) (End ∷ []) (fill_fits d.left) (tt, tt))
+          let whole : ls ++ (map Entry (fill d.left) ++ End ∷ []) ≡ trace_lines t = sym (append_assoc ls (map Entry (fill d.left)) (End ∷ [])) ∙ ap (λ x. x ++ End ∷ []) (sym body) in
+          (t, map Entry (fill d.left) ++ End ∷ [], whole, AllByRecursion-append FitsLine (map Entry (fill d.left)) (End ∷ []) (fill_fits d.left) (tt, tt))
     ]
 
 -- ---- lines one after the other
@@ -220,7 +220,7 @@ holding q es = record q { entries = es }
 settled_more : (qs : List TraceQueue) (q : TraceQueue) (n : ℕ) → 0 < n → settled (within qs q n) ≡ within qs q n
 settled_more qs q n lt = let some : eqb n 0 ≡ false = ne_eqb n 0 (λ z. omega (arith, z, lt)) in rw some refl
 
-entry_next : (qs : List TraceQueue) (q : TraceQueue) (m n : ℕ) (e : EntryData) → m ≡ n + 1 → next (within qs q m) (Entry e) ≡ Some (settled (within qs (with_entry q e) n))
+entry_next : (qs : List TraceQueue) (q : TraceQueue) (m n : ℕ) (e : EntryData) → m ≡ n + 1 → next (within qs q m) (Entry e) ≡ Some (settled (within qs (queue_with_entry q e) n))
 unfolding next
 entry_next qs q m n e is =
     let some : eqb m 0 ≡ false = ne_eqb m 0 (λ z. omega (arith, z, is)) in
@@ -253,28 +253,28 @@ queues_run qs (q ∷ rs) =
 abbrev finished : Trace → Draft
 finished t = record { part = part_of.End; queues = t.queues; current = blank; left = 0 }
 
-lines_run : (t : Trace) → run reading start (lines t) ≡ Some (finished t)
+lines_run : (t : Trace) → run reading start (trace_lines t) ≡ Some (finished t)
 unfolding run next
 lines_run t =
     run_on reading start (between t.queues) (finished t) (Title ∷ flat_map queue_lines t.queues) (End ∷ []) (queues_run [] t.queues) refl
 
 -- ---- the whole text
 
-ending : (q : Part) (d : Draft) (ls : List Line) → is_end q ≡ true → ls ≡ so_far q d → ls ≡ lines (trace_so_far d)
+ending : (q : Part) (d : Draft) (ls : List Line) → is_trace_end q ≡ true → ls ≡ so_far q d → ls ≡ trace_lines (trace_so_far d)
 ending part_of.Start d ls e w = absurd cc
 ending part_of.Body d ls e w = absurd cc
 ending part_of.End d ls e w = w
 
 pub nothing_said : line_of (words []) ≡ None
-unfolding line_of entry short long number_of
+unfolding line_of entry short long spelled_number
 nothing_said = refl
 
-form : IsForm reading bytes_of line_text lines Fits Stands
+form : IsForm reading bytes_of trace_line_text trace_lines FitsLine Stands
 form = record {
   fed = fed;
-  free = λ l fit. no_feed_within (line_words l) (line_are l fit);
+  free = λ l fit. no_feed_within (trace_line_words l) (line_are l fit);
   again = read_again;
-  taken = λ bytes l is. (let t = line_taken (words bytes) l is in (t.0, words_taken bytes (line_words l) t.1));
+  taken = λ bytes l is. (let t = line_taken (words bytes) l is in (t.0, words_taken bytes (trace_line_words l) t.1));
   empty = nothing_said;
   leads = λ t. (finished t, lines_run t, refl, refl);
   starts = record { written = refl; sound = (refl, refl) };
@@ -285,22 +285,22 @@ form = record {
 
 -- ---- where a text stops
 
-pub text_ends : (k : ℕ) (d : Draft) (bytes : List ℕ) → (eqb (length bytes) 0 && is_end d.part) ≡ true → read_from traces k d (bytes ∷ []) ≡ answer (trace_so_far d)
+pub text_ends : (k : ℕ) (d : Draft) (bytes : List ℕ) → (eqb (length bytes) 0 && is_trace_end d.part) ≡ true → read_from trace_language k d (bytes ∷ []) ≡ answer (trace_so_far d)
 text_ends k d bytes ends = plain_ended form k d bytes ends
 
-pub text_stops : (k : ℕ) (d : Draft) (bytes : List ℕ) → (eqb (length bytes) 0 && is_end d.part) ≡ false → read_from traces k d (bytes ∷ []) ≡ failed k tt
+pub text_stops : (k : ℕ) (d : Draft) (bytes : List ℕ) → (eqb (length bytes) 0 && is_trace_end d.part) ≡ false → read_from trace_language k d (bytes ∷ []) ≡ failed k tt
 text_stops k d bytes other = plain_stopped form k d bytes other
 
 -- ---- what is answered
 
-pub found_in : (b : List ℕ) (s : Trace) → read_text traces b ≡ Ok s → Finds parsed.Ok IsText (parsed.Ok s) b
+pub found_in : (b : List ℕ) (s : Trace) → read_text trace_language b ≡ Ok s → Finds parsed.Ok IsTraceText (parsed.Ok s) b
 found_in b s e t is = let same : s ≡ t = cc in text_found form b t (e ∙ ap answer same)
 
-pub found_only : (b : List ℕ) (s : Trace) → read_text traces b ≡ Ok s → FindsAll parsed.Ok parsed.NoMemory IsText (parsed.Ok s) b
+pub found_only : (b : List ℕ) (s : Trace) → read_text trace_language b ≡ Ok s → FindsAll parsed.Ok parsed.NoMemory IsTraceText (parsed.Ok s) b
 found_only b s e t is = inl (ap parsed.Ok (text_only form b s t e is))
 
-pub found_never : (b : List ℕ) (k : ℕ) → read_text traces b ≡ Err (k, tt) → FindsAll parsed.Ok parsed.NoMemory IsText (parsed.Bad k) b
+pub found_never : (b : List ℕ) (k : ℕ) → read_text trace_language b ≡ Err (k, tt) → FindsAll parsed.Ok parsed.NoMemory IsTraceText (parsed.Bad k) b
 found_never b k e t is = absurd (text_never form b k tt t e is)
 
-pub refused_as : (b : List ℕ) (k : ℕ) → read_text traces b ≡ Err (k, tt) → Names parsed.Bad IsLeastBad (parsed.Bad k) b
-refused_as b k e j is = let same : k ≡ j = cc in subst (IsLeastBad b) same (text_bad form b k tt e)
+pub refused_as : (b : List ℕ) (k : ℕ) → read_text trace_language b ≡ Err (k, tt) → Names parsed.Bad IsLeastBadOfTrace (parsed.Bad k) b
+refused_as b k e j is = let same : k ≡ j = cc in subst (IsLeastBadOfTrace b) same (text_bad form b k tt e)

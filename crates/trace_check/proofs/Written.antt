@@ -13,7 +13,7 @@ use Rattle.trace_check.specs.declared.trace.TraceQueue.{TraceQueue}
 use Rattle.line_words.proofs.Joining.{join_append}
 use Rattle.trace_check.specs.declared.line.Line.TheVariants.{Title, End}
 use Rattle.trace_check.specs.Line.{call_words, reply_words}
-use Rattle.trace_check.specs.Text.{line_text, queue_lines, text}
+use Rattle.trace_check.specs.Text.{trace_line_text, queue_lines, trace_text}
 
 -- these are a word and others
 abbrev Some_words : List (List ℕ) → Type 0
@@ -64,7 +64,7 @@ pub entry_joined : (e : EntryData) → Joins (decimal e.sender) (decimal e.seq) 
 entry_joined e = joined (decimal e.sender) (decimal e.seq) (call_words e.call) (reply_words e.reply) (call_named e.call) (reply_named e.reply)
 
 -- the title, the lines of the queues, and the end
-pub whole_text : (qs : List TraceQueue) (a b new : List ℕ) → a ≡ line_text Title → b ≡ a ++ flat_map line_text (flat_map queue_lines qs) → new ≡ b ++ line_text End → new ≡ text (record { queues = qs })
+pub whole_text : (qs : List TraceQueue) (a b new : List ℕ) → a ≡ trace_line_text Title → b ≡ a ++ flat_map trace_line_text (flat_map queue_lines qs) → new ≡ b ++ trace_line_text End → new ≡ trace_text (record { queues = qs })
 whole_text qs a b new title body end =
-    end ∙ ap (λ t. t ++ line_text End) (body ∙ ap (λ t. t ++ flat_map line_text (flat_map queue_lines qs)) title)
-    ∙ sym (flat_map-append line_text (Title ∷ flat_map queue_lines qs) (End ∷ []) ∙ ap (λ t. flat_map line_text (Title ∷ flat_map queue_lines qs) ++ t) (append-nil (line_text End)))
+    end ∙ ap (λ t. t ++ trace_line_text End) (body ∙ ap (λ t. t ++ flat_map trace_line_text (flat_map queue_lines qs)) title)
+    ∙ sym (flat_map-append trace_line_text (Title ∷ flat_map queue_lines qs) (End ∷ []) ∙ ap (λ t. flat_map trace_line_text (Title ∷ flat_map queue_lines qs) ++ t) (append-nil (trace_line_text End)))

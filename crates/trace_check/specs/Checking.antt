@@ -9,7 +9,7 @@ use Rattle.loop_model.specs.declared.reply.Reply.{Reply}
 use Rattle.loop_model.specs.Answers.{answer, clock}
 use Rattle.loop_model.specs.Base.{empty_base}
 use Rattle.loop_model.specs.Counters.{left_with, setting}
-use Rattle.loop_model.specs.Legal.{IsTimely, is_control, made_count}
+use Rattle.loop_model.specs.Legal.{CallFitsTime, is_control, made_count}
 use Rattle.loop_model.specs.Listed.{listed_answer}
 use Rattle.trace_check.specs.declared.checker.Checked.{Checked}
 use Rattle.trace_check.specs.declared.checker.Checked.TheVariants as checked
@@ -20,7 +20,7 @@ use Rattle.trace_check.specs.declared.checker.Explained.TheVariants as explained
 use Rattle.trace_check.specs.declared.counts.Counts.{Counts}
 use Rattle.trace_check.specs.declared.past.Past.{Past}
 use Rattle.trace_check.specs.Ranks.{listed}
-use Rattle.trace_check.specs.Good.{setting_of, IsGood, IsFirstBad}
+use Rattle.trace_check.specs.Good.{trace_setting, IsGood, IsFirstBad}
 
 -- ---- what is promised
 
@@ -45,18 +45,18 @@ AllFirst c q = (place : ℕ) → IsFirstBad q place → (c ≡ checked.First pla
 -- what is wrong with an entry, first of all: where this reply was wanted at this time of a sender that has made so many
 abbrev pub IsFault : TraceQueue → Option Reply → ℕ → ℕ → Entry → Fault → Type 0
 IsFault q wanted time made e (fault.Reply w) = (w ≡ wanted) × (wanted ≡ Some e.reply → ⊥)
-IsFault q wanted time made e (fault.Moment t) = (t ≡ time) × (wanted ≡ Some e.reply) × (IsTimely q.lockstep time e.call → ⊥)
-IsFault q wanted time made e fault.Sender = (wanted ≡ Some e.reply) × IsTimely q.lockstep time e.call × (q.senders ≤ e.sender)
+IsFault q wanted time made e (fault.Moment t) = (t ≡ time) × (wanted ≡ Some e.reply) × (CallFitsTime q.lockstep time e.call → ⊥)
+IsFault q wanted time made e fault.Sender = (wanted ≡ Some e.reply) × CallFitsTime q.lockstep time e.call × (q.senders ≤ e.sender)
 IsFault q wanted time made e (fault.Number n) =
-    (n ≡ made) × (wanted ≡ Some e.reply) × IsTimely q.lockstep time e.call × (e.sender < q.senders) × (e.seq ≡ made → ⊥)
+    (n ≡ made) × (wanted ≡ Some e.reply) × CallFitsTime q.lockstep time e.call × (e.sender < q.senders) × (e.seq ≡ made → ⊥)
 IsFault q wanted time made e fault.Control =
-    (wanted ≡ Some e.reply) × IsTimely q.lockstep time e.call × (e.sender < q.senders) × (e.seq ≡ made) × (is_control e.call ≡ true)
+    (wanted ≡ Some e.reply) × CallFitsTime q.lockstep time e.call × (e.sender < q.senders) × (e.seq ≡ made) × (is_control e.call ≡ true)
     × (e.sender + 1 ≡ q.senders → ⊥)
 
 -- what is wrong with an entry after these
 abbrev pub IsFaultAfter : TraceQueue → List Entry → Entry → Fault → Type 0
 IsFaultAfter q es e f =
-    IsFault q (answer (setting_of q) (empty_base q.senders) es e.call) (clock (empty_base q.senders) es) (made_count (empty_base q.senders) es e.sender) e f
+    IsFault q (answer (trace_setting q) (empty_base q.senders) es e.call) (clock (empty_base q.senders) es) (made_count (empty_base q.senders) es e.sender) e f
 
 -- a check's answer, without the fault
 abbrev pub checked_of : Explained → Checked
@@ -77,8 +77,8 @@ abbrev pub made_in : Counts → ℕ → ℕ
 made_in c sender = unwrap_or (tree.get nat_cmp c.by_sender sender) 0
 
 -- what is kept, as what a history has left; senders are counted apart
-abbrev pub base_by : Past → Base
-base_by p = left_with p.length p.counters [] (listed p.items)
+abbrev pub past_base : Past → Base
+past_base p = left_with p.length p.counters [] (listed p.items)
 
 -- the entry is the next of its sender, which has made so many
 pub record IsNumberedSo (senders made : ℕ) (e : Entry) : Type 0 where
@@ -89,7 +89,7 @@ pub record IsNumberedSo (senders made : ℕ) (e : Entry) : Type 0 where
 -- the entry may come next, by what the entries before it have left
 pub record Follows (q : TraceQueue) (b : Base) (made : ℕ) (e : Entry) : Type 0 where
   pub reply : listed_answer (setting q.main q.lockstep) b e.call ≡ Some e.reply
-  pub timely : IsTimely q.lockstep b.time e.call
+  pub timely : CallFitsTime q.lockstep b.time e.call
   pub numbered : IsNumberedSo q.senders made e
 
 -- what is wrong with an entry, by what the entries before it have left, where anything is
@@ -100,4 +100,4 @@ IsFaultBy (Some f) q b made e = IsFault q (listed_answer (setting q.main q.locks
 -- what is wrong with the sender, or its number, where anything is, and all else is right
 abbrev pub IsSenderFault : Option Fault → TraceQueue → ℕ → Entry → Type 0
 IsSenderFault None q made e = IsNumberedSo q.senders made e
-IsSenderFault (Some f) q made e = (time : ℕ) → IsTimely q.lockstep time e.call → IsFault q (Some e.reply) time made e f
+IsSenderFault (Some f) q made e = (time : ℕ) → CallFitsTime q.lockstep time e.call → IsFault q (Some e.reply) time made e f

@@ -7,12 +7,12 @@ use Rattle.loop_model.specs.Base.{empty_base}
 use Rattle.loop_model.specs.Legal.{IsLegal, AreNumbered}
 
 -- what stays fixed for the queue
-abbrev pub setting_of : TraceQueue → Setting
-setting_of q = record { main = q.main; lockstep = q.lockstep; senders = q.senders }
+abbrev pub trace_setting : TraceQueue → Setting
+trace_setting q = record { main = q.main; lockstep = q.lockstep; senders = q.senders }
 
 -- these entries are a history that the queue could have had from an empty start, and its senders number them
 abbrev pub IsGood : TraceQueue → List Entry → Type 0
-IsGood q es = IsLegal (setting_of q) (empty_base q.senders) es × AreNumbered (setting_of q) (empty_base q.senders) es
+IsGood q es = IsLegal (trace_setting q) (empty_base q.senders) es × AreNumbered (trace_setting q) (empty_base q.senders) es
 
 -- the queue's history is legal, and its senders number their entries
 abbrev pub IsLegalQueue : TraceQueue → Type 0

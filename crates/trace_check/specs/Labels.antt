@@ -47,13 +47,13 @@ label_of s (Message n p) = post_label s p
 label_of s (SyncBarrier t w) = barrier_label s t
 
 -- there is a label, and it is this one
-abbrev pub is_label : Option Label → Label → Bool
-is_label None l = false
-is_label (Some m) l = is_eq (by_label m l)
+abbrev pub has_label : Option Label → Label → Bool
+has_label None l = false
+has_label (Some m) l = is_eq (by_label m l)
 
 -- the item bears this label of this shape
 abbrev pub bears : Shape → Label → Item → Bool
-bears s l x = is_label (label_of s x) l
+bears s l x = has_label (label_of s x) l
 
 -- ---- what a filter asks for
 

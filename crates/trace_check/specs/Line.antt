@@ -10,25 +10,25 @@ use Rattle.loop_model.specs.declared.call.Call.TheVariants as call
 use Rattle.loop_model.specs.declared.reply.Reply.{Reply}
 use Rattle.loop_model.specs.declared.reply.Reply.TheVariants as reply
 use Rattle.loop_model.specs.Entries.{moment_of}
-use Rattle.line_words.specs.Words.{Words, maybe, one_of, IsShort, IsLong}
+use Rattle.line_words.specs.Words.{LineWords, maybe, one_of, IsShort, IsLong}
 use Rattle.trace_check.specs.declared.line.Line.{Line}
 use Rattle.trace_check.specs.declared.line.Line.TheVariants.{Title, Queue, Entry, End}
 
 -- ---- the words of a line
 
-abbrev pub post_words : Post → Words
+abbrev pub post_words : Post → LineWords
 post_words p =
     decimal p.handler ∷ decimal p.what ∷ decimal p.arg ∷ maybe p.obj ∷ maybe p.callback ∷ decimal p.when ∷ one_of (codes "a") (codes "s") p.asynchronous ∷ maybe p.slot ∷ []
 
-abbrev pub kind_words : Kind → Words
+abbrev pub kind_words : Kind → LineWords
 kind_words (What w) = codes "what" ∷ decimal w ∷ []
 kind_words (Callback c) = codes "callback" ∷ decimal c ∷ []
 kind_words AnyKind = codes "all" ∷ []
 
-abbrev pub filter_words : Filter → Words
+abbrev pub filter_words : Filter → LineWords
 filter_words f = decimal f.handler ∷ kind_words f.kind ++ maybe f.obj ∷ []
 
-abbrev pub call_words : Call → Words
+abbrev pub call_words : Call → LineWords
 call_words (call.Post p) = codes "post" ∷ post_words p
 call_words (call.Barrier now) = codes "barrier" ∷ decimal now ∷ []
 call_words (call.Unbarrier token) = codes "unbarrier" ∷ decimal token ∷ []
@@ -38,7 +38,7 @@ call_words (call.Next now) = codes "next" ∷ decimal now ∷ []
 call_words (call.Advance now) = codes "advance" ∷ decimal now ∷ []
 call_words (call.Halt now) = codes "halt" ∷ decimal now ∷ []
 
-abbrev pub reply_words : Reply → Words
+abbrev pub reply_words : Reply → LineWords
 reply_words (reply.Accepted n) = codes "accepted" ∷ decimal n ∷ []
 reply_words (reply.Refused place) = codes "refused" ∷ decimal place ∷ []
 reply_words (reply.Token token) = codes "token" ∷ decimal token ∷ []
@@ -53,11 +53,11 @@ reply_words reply.Disposed = codes "disposed" ∷ []
 reply_words reply.Advanced = codes "advanced" ∷ []
 reply_words reply.Halted = codes "halted" ∷ []
 
-abbrev pub line_words : Line → Words
-line_words Title = codes "trace" ∷ decimal 1 ∷ []
-line_words (Queue h) = codes "queue" ∷ decimal h.looper ∷ one_of (codes "main") (codes "side") h.main ∷ one_of (codes "lockstep") (codes "free") h.lockstep ∷ decimal h.senders ∷ decimal h.count ∷ []
-line_words (Entry e) = decimal e.sender ∷ decimal e.seq ∷ call_words e.call ++ reply_words e.reply
-line_words End = codes "end" ∷ []
+abbrev pub trace_line_words : Line → LineWords
+trace_line_words Title = codes "trace" ∷ decimal 1 ∷ []
+trace_line_words (Queue h) = codes "queue" ∷ decimal h.looper ∷ one_of (codes "main") (codes "side") h.main ∷ one_of (codes "lockstep") (codes "free") h.lockstep ∷ decimal h.senders ∷ decimal h.count ∷ []
+trace_line_words (Entry e) = decimal e.sender ∷ decimal e.seq ∷ call_words e.call ++ reply_words e.reply
+trace_line_words End = codes "end" ∷ []
 
 -- ---- the limits of the numbers
 
@@ -89,8 +89,8 @@ FitsReply (reply.Dispatched n) = IsLong n
 FitsReply _ = Unit {0}
 
 -- each number of the line is within its own limits
-abbrev pub Fits : Line → Type 0
-Fits Title = Unit {0}
-Fits (Queue h) = IsShort h.looper × IsShort h.senders × IsLong h.count
-Fits (Entry e) = IsShort e.sender × IsLong e.seq × FitsCall e.call × FitsReply e.reply
-Fits End = Unit {0}
+abbrev pub FitsLine : Line → Type 0
+FitsLine Title = Unit {0}
+FitsLine (Queue h) = IsShort h.looper × IsShort h.senders × IsLong h.count
+FitsLine (Entry e) = IsShort e.sender × IsLong e.seq × FitsCall e.call × FitsReply e.reply
+FitsLine End = Unit {0}

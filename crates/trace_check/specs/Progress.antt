@@ -31,8 +31,8 @@ abbrev pub settled : Draft → Draft
 settled d = if d.left == 0 then record d { queues = d.queues ++ d.current ∷ []; current = blank } else d
 
 -- the queue with one more entry
-abbrev pub with_entry : TraceQueue → EntryData → TraceQueue
-with_entry q e = record q { entries = q.entries ++ e ∷ [] }
+abbrev pub queue_with_entry : TraceQueue → EntryData → TraceQueue
+queue_with_entry q e = record q { entries = q.entries ++ e ∷ [] }
 
 -- what the first line makes of a draft
 abbrev pub after_start : Draft → Line → Option Draft
@@ -47,7 +47,7 @@ after_queues d _ = None
 
 -- what a line makes of a draft whose last queue has entries to come
 abbrev pub after_entries : Draft → Line → Option Draft
-after_entries d (Entry e) = Some (settled (record d { current = with_entry d.current e; left = d.left - 1 }))
+after_entries d (Entry e) = Some (settled (record d { current = queue_with_entry d.current e; left = d.left - 1 }))
 after_entries d _ = None
 
 -- what a line makes of a draft in this part
@@ -60,17 +60,17 @@ after_part part_of.End d l = None
 unfoldable pub next : Draft → Line → Option Draft
 next d l = after_part d.part d l
 
-abbrev pub is_end : Part → Bool
-is_end part_of.End = true
-is_end _ = false
+abbrev pub is_trace_end : Part → Bool
+is_trace_end part_of.End = true
+is_trace_end _ = false
 
 abbrev pub trace_so_far : Draft → Trace
 trace_so_far d = record { queues = d.queues }
 
 -- how the lines of a trace are read
 abbrev pub reading : Reading Line Draft Trace
-reading = record { start = start; line_of = λ bytes. line_of (words bytes); next = next; is_end = λ d. is_end d.part; whole = trace_so_far }
+reading = record { start = start; line_of = λ bytes. line_of (words bytes); next = next; is_end = λ d. is_trace_end d.part; whole = trace_so_far }
 
 -- the language of traces
-abbrev pub traces : Language Line Draft Trace (Unit {0})
-traces = plain reading
+abbrev pub trace_language : Language Line Draft Trace (Unit {0})
+trace_language = plain reading

@@ -33,13 +33,13 @@ pub record AreIndexed (s : Items) : Type 0 where
   pub shelved : AreShelved s.shelves s.by_rank.entries
 
 -- the item stands at this rank
-abbrev pub StandsAt : Items → (ℕ × ℕ) × Item → Type 0
-StandsAt s e = tree.get by_rank s.by_rank e.0 ≡ Some e.1
+abbrev pub StandsAtRank : Items → (ℕ × ℕ) × Item → Type 0
+StandsAtRank s e = tree.get by_rank s.by_rank e.0 ≡ Some e.1
 
 -- one of the items that the entry ends, where there is one
 abbrev pub IsOneEnded : Items → Entry → Option ((ℕ × ℕ) × Item) → Type 0
 IsOneEnded s e None = find (ends e) (listed s) ≡ None
-IsOneEnded s e (Some p) = StandsAt s p × (ends e p.1 ≡ true)
+IsOneEnded s e (Some p) = StandsAtRank s p × (ends e p.1 ≡ true)
 
 -- no two items share a number or a token
 abbrev pub AreApart : List Item → Type 0

@@ -13,7 +13,7 @@ use Rattle.trace_check.specs.declared.label.Shape.{Shape}
 use Rattle.trace_check.specs.declared.label.Shape.TheVariants.{Asynchronous, Token, What, WhatObject, Callback, CallbackObject, Any, AnyObject}
 use Rattle.trace_check.specs.declared.shelf.Shelf.{Shelf}
 use Rattle.trace_check.specs.declared.shelves.Shelves.{Shelves}
-use Rattle.trace_check.specs.Labels.{Label, by_label, label_of, is_label, bears}
+use Rattle.trace_check.specs.Labels.{Label, by_label, label_of, has_label, bears}
 
 -- how ranks compare
 abbrev pub by_rank : ℕ × ℕ → ℕ × ℕ → Ordering
@@ -29,10 +29,10 @@ ranks_at f l = option_map (λ s. s.keys) (tree.get by_label f.ranks l)
 
 -- with the rank put in, or taken out, at the label that an item bears
 abbrev pub ranks_with : Option Label → ℕ × ℕ → Label → Option (List (ℕ × ℕ)) → Option (List (ℕ × ℕ))
-ranks_with label rank l o = if is_label label l then option_map (λ ks. insert_key by_rank ks rank) o else o
+ranks_with label rank l o = if has_label label l then option_map (λ ks. insert_key by_rank ks rank) o else o
 
 abbrev pub ranks_without : Option Label → ℕ × ℕ → Label → Option (List (ℕ × ℕ)) → Option (List (ℕ × ℕ))
-ranks_without label rank l o = if is_label label l then option_map (remove_key (is_at (by_rank rank))) o else o
+ranks_without label rank l o = if has_label label l then option_map (remove_key (is_at (by_rank rank))) o else o
 
 -- no item is kept for any label
 abbrev pub IsBare : Shelf → Type 0

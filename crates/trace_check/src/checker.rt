@@ -1,7 +1,7 @@
 //! Whether a queue's history is one that a queue could have.
 ghost use Rattle.std.specs.Prelude.{◌≡◌, ◌↔◌, IsTrue, Some};
-ghost use Rattle.loop_model.specs.Legal.{IsMoment, IsTimely, is_control};
-ghost use Rattle.trace_check.specs.Checking.{AllFirst, AllLegal, IsCheckedFirst, IsCheckedLegal, IsExplained, IsFaultBy, IsSenderFault, base_by, checked_of};
+ghost use Rattle.loop_model.specs.Legal.{FitsTime, CallFitsTime, is_control};
+ghost use Rattle.trace_check.specs.Checking.{AllFirst, AllLegal, IsCheckedFirst, IsCheckedLegal, IsExplained, IsFaultBy, IsSenderFault, past_base, checked_of};
 ghost use Rattle.trace_check.specs.Ranks.{AreIndexed};
 
 use crate::counts::Counts;
@@ -35,14 +35,14 @@ pub enum Explained {
 
 /// Whether a moment fits the time: in lockstep it is the time, and else not before it.
 fn is_moment(lockstep: bool, time: u64, now: u64) -> bool
-    ensures { IsTrue result ↔ IsMoment lockstep time now }
+    ensures { IsTrue result ↔ FitsTime lockstep time now }
 {
     if lockstep { now == time } else { time <= now }
 }
 
 /// Whether the moment of the call fits the time.
 fn is_timely(lockstep: bool, time: u64, call: &Call) -> bool
-    ensures { IsTrue result ↔ IsTimely lockstep time call.now }
+    ensures { IsTrue result ↔ CallFitsTime lockstep time call.now }
 {
     match *call {
         Call::Barrier { now } => is_moment(lockstep, time, now),
@@ -103,7 +103,7 @@ fn is_reply(answer: &Option<Reply>, reply: &Reply) -> bool
 /// What is wrong with the entry, where anything is.
 fn fault_of(queue: &TraceQueue, past: &Past, made: u64, entry: &Entry) -> Option<Fault>
     requires { AreIndexed past.now.items }
-    ensures { IsFaultBy result queue.now (base_by past.now) made entry.now }
+    ensures { IsFaultBy result queue.now (past_base past.now) made entry.now }
 {
     let wanted = past.answer(queue.main, queue.lockstep, &entry.call);
     if !is_reply(&wanted, &entry.reply) {

@@ -1,7 +1,7 @@
 //! A trace that is read line by line.
 ghost use Rattle.std.specs.Prelude.{◌≡◌, ◌<◌, ◌-◌, IfOk, OnOk};
 ghost use Rattle.line_words.specs.LineReading.{answered};
-ghost use Rattle.trace_check.specs.Progress.{after_entries, after_part, after_queues, after_start, blank, opened, settled, with_entry};
+ghost use Rattle.trace_check.specs.Progress.{after_entries, after_part, after_queues, after_start, blank, opened, settled, queue_with_entry};
 
 use crate::line::{Head, Line};
 use crate::reading::line_of;
@@ -76,7 +76,7 @@ impl Draft {
 
     fn add_entry(&mut self, alloc: Global, entry: &Entry) -> Result<(), NoMemory>
         requires { 0 < self.old.left }
-        ensures { OnOk result (self.new ≡ settled (record self.old { current = with_entry self.old.current entry.now; left = self.old.left - 1 })) }
+        ensures { OnOk result (self.new ≡ settled (record self.old { current = queue_with_entry self.old.current entry.now; left = self.old.left - 1 })) }
     {
         self.current.entries.push(*entry)?;
         self.left -= 1;
@@ -132,13 +132,13 @@ impl ByLines for Draft {
 
     ghost use Rattle.trace_check.specs.declared.line.Line.{Line};
     ghost use Rattle.trace_check.specs.declared.draft.Draft.{Draft};
-    ghost use Rattle.trace_check.specs.Progress.{traces};
+    ghost use Rattle.trace_check.specs.Progress.{trace_language};
 
     ghost Said = { Line };
 
     ghost Held = { Draft };
 
-    ghost language = { traces };
+    ghost language = { trace_language };
 
     ghost so_far = { λ draft. draft };
 

@@ -8,7 +8,7 @@ ghost use Rattle.loop_model.specs.declared.item.Item.{Item as ItemOf};
 ghost use Rattle.loop_model.specs.Entries.{ends};
 ghost use Rattle.loop_model.specs.Items.{is_asynchronous, matches};
 ghost use Rattle.loop_model.specs.Listed.{first_listed, insert_item, kept_by};
-ghost use Rattle.trace_check.specs.Ranks.{AreApart, AreIndexed, AreRanked, IsOneEnded, StandsAt, listed, rank_of};
+ghost use Rattle.trace_check.specs.Ranks.{AreApart, AreIndexed, AreRanked, IsOneEnded, StandsAtRank, listed, rank_of};
 ghost use Rattle.trace_check.specs.Shelves.{by_rank, keys_passing};
 
 use crate::label::{Shape, filter_label, filter_shape, label_ended};
@@ -92,7 +92,7 @@ impl Items {
 
     /// Takes out the item at this rank.
     fn take_out(&mut self, rank: Rank, item: &Item)
-        requires known { StandsAt self.old (rank, item.now) }
+        requires known { StandsAtRank self.old (rank, item.now) }
         requires indexed { AreIndexed self.old }
         ensures entries { self.new.by_rank.entries ≡ remove_entry (is_at (by_rank rank)) self.old.by_rank.entries }
         ensures indexed { AreIndexed self.new }
@@ -106,7 +106,7 @@ impl Items {
         requires { AreIndexed self.now }
         ensures found { (p : ItemOf → Bool) → ranks.now.keys ≡ keys_passing p self.now.by_rank.entries
             → option_map (λ e. e.1) result ≡ find p (listed self.now) }
-        ensures known { IfSome result (StandsAt self.now) }
+        ensures known { IfSome result (StandsAtRank self.now) }
     {
         let Some(rank) = ranks.first() else {
             return None;
@@ -145,7 +145,7 @@ impl Items {
     fn first_asynchronous(&self) -> Option<(Rank, Item)>
         requires { AreIndexed self.now }
         ensures item { option_map (λ e. e.1) result ≡ find is_asynchronous (listed self.now) }
-        ensures known { IfSome result (StandsAt self.now) }
+        ensures known { IfSome result (StandsAtRank self.now) }
     {
         match self.shelves.of(Shape::Asynchronous).get((0, 0, 0)) {
             Some(ranks) => self.first_on(ranks),
@@ -156,7 +156,7 @@ impl Items {
     /// The item at the head with its rank.
     fn head(&self) -> Option<(Rank, Item)>
         ensures item { option_map (λ e. e.1) result ≡ slice_get (listed self.now) 0 }
-        ensures known { IfSome result (StandsAt self.now) }
+        ensures known { IfSome result (StandsAtRank self.now) }
     {
         match self.by_rank.first_key_value() {
             Some((rank, item)) => Some((*rank, *item)),
@@ -168,7 +168,7 @@ impl Items {
     fn first_ranked(&self) -> Option<(Rank, Item)>
         requires { AreIndexed self.now }
         ensures item { option_map (λ e. e.1) result ≡ first_listed (listed self.now) }
-        ensures known { IfSome result (StandsAt self.now) }
+        ensures known { IfSome result (StandsAtRank self.now) }
     {
         let Some((rank, item)) = self.head() else {
             return None;

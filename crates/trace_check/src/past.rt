@@ -3,7 +3,7 @@ ghost use Rattle.std.specs.Prelude.{◌≡◌, ◌+◌, ◌<◌, ◌≤◌, ◌^
 ghost use Rattle.loop_model.specs.Base.{empty_base};
 ghost use Rattle.loop_model.specs.Counters.{setting};
 ghost use Rattle.loop_model.specs.Listed.{insert_made, listed_answer, next_base};
-ghost use Rattle.trace_check.specs.Checking.{base_by};
+ghost use Rattle.trace_check.specs.Checking.{past_base};
 ghost use Rattle.trace_check.specs.Ranks.{AreApart, AreIndexed, AreRanked, listed};
 
 use crate::items::Items;
@@ -21,7 +21,7 @@ pub(crate) struct Past {
 impl Past {
     /// Nothing went before. These are the entries that are to come.
     pub(crate) fn new(alloc: Global, entries: &[Entry]) -> Result<Past, NoMemory>
-        ensures base { IfOk result (λ p. base_by p ≡ empty_base 0) }
+        ensures base { IfOk result (λ p. past_base p ≡ empty_base 0) }
         ensures length { IfOk result (λ p. p.length ≡ 0) }
         ensures ranked { IfOk result (λ p. AreRanked p.length p.items) }
         ensures indexed { IfOk result (λ p. AreIndexed p.items) }
@@ -47,7 +47,7 @@ impl Past {
         self.items.insert(self.length, item)
     }
 
-    /// The state after one more entry. After want of memory the state is not to be used.
+    /// The state after one more entry. After running out of memory the state is not to be used.
     #[tactic(auto, unfolding(loop_model::specs::Listed::next_base))]
     pub(crate) fn add(&mut self, entry: &Entry) -> Result<(), NoMemory>
         requires length { self.old.length + 1 < 2 ^ 64 }
@@ -56,7 +56,7 @@ impl Past {
         requires ranked { AreRanked self.old.length self.old.items }
         requires apart { AreApart (listed self.old.items) }
         requires indexed { AreIndexed self.old.items }
-        ensures base { OnOk result (base_by self.new ≡ next_base (base_by self.old) entry.now) }
+        ensures base { OnOk result (past_base self.new ≡ next_base (past_base self.old) entry.now) }
         ensures length { OnOk result (self.new.length ≡ self.old.length + 1) }
         ensures posts { OnOk result (self.new.counters.accepted ≤ self.new.length) }
         ensures barriers { OnOk result (self.new.counters.barriers ≤ self.new.length) }
@@ -72,7 +72,7 @@ impl Past {
 
     /// The time of the queue.
     pub(crate) fn time(&self) -> u64
-        ensures { result ≡ (base_by self.now).time }
+        ensures { result ≡ (past_base self.now).time }
     {
         self.counters.time
     }
@@ -80,7 +80,7 @@ impl Past {
     /// The reply to a call, or none.
     pub(crate) fn answer(&self, main: bool, lockstep: bool, call: &Call) -> Option<Reply>
         requires { AreIndexed self.now.items }
-        ensures { result ≡ listed_answer (setting main lockstep) (base_by self.now) call.now }
+        ensures { result ≡ listed_answer (setting main lockstep) (past_base self.now) call.now }
     {
         self.counters.answer(main, lockstep, &self.items, call)
     }

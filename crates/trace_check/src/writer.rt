@@ -4,7 +4,7 @@ ghost use Rattle.std.specs.List.{flat_map, join_with_byte};
 ghost use Rattle.trace_check.specs.declared.line.Line.TheVariants as line_of;
 ghost use Rattle.line_words.specs.Words.{maybe, one_of};
 ghost use Rattle.trace_check.specs.Line.{call_words, post_words, filter_words, reply_words};
-ghost use Rattle.trace_check.specs.Text.{head_of, line_text, queue_lines, text};
+ghost use Rattle.trace_check.specs.Text.{queue_head, trace_line_text, queue_lines, trace_text};
 ghost use Rattle.loop_model.specs.Chain.{entries_of};
 ghost use Rattle.trace_check.specs.Text.{trace_of, trace_queue_of};
 
@@ -131,7 +131,7 @@ impl fmt::Display for Replied {
 }
 
 fn push_entry(out: &mut String, entry: &Entry) -> Result<(), NoMemory>
-    ensures { OnOk result (string_bytes out.new ≡ string_bytes out.old ++ line_text (line_of.Entry entry.now)) }
+    ensures { OnOk result (string_bytes out.new ≡ string_bytes out.old ++ trace_line_text (line_of.Entry entry.now)) }
 {
     let call = Called(entry.call);
     let reply = Replied(entry.reply);
@@ -141,7 +141,7 @@ fn push_entry(out: &mut String, entry: &Entry) -> Result<(), NoMemory>
 
 fn push_entries(out: &mut String, entries: &[Entry]) -> Result<(), NoMemory>
     ensures { OnOk result
-        (string_bytes out.new ≡ string_bytes out.old ++ flat_map line_text (map line_of.Entry entries.now)) }
+        (string_bytes out.new ≡ string_bytes out.old ++ flat_map trace_line_text (map line_of.Entry entries.now)) }
 {
     for entry in entries {
         push_entry(out, entry)?;
@@ -151,7 +151,7 @@ fn push_entries(out: &mut String, entries: &[Entry]) -> Result<(), NoMemory>
 
 /// The line of a queue of a trace.
 fn head_of(queue: &TraceQueue) -> Head
-    ensures { result ≡ head_of queue.now (length queue.now.entries) }
+    ensures { result ≡ queue_head queue.now (length queue.now.entries) }
 {
     Head {
         looper: queue.looper,
@@ -178,7 +178,7 @@ fn count_entries(parts: &[Segment]) -> Result<u64, NoMemory>
 
 /// The line of a queue whose record this is.
 fn head_of_record(queue: &QueueRecord) -> Result<Head, NoMemory>
-    ensures { IfOk result (λ head. head ≡ head_of (trace_queue_of queue.now) (length (entries_of queue.now.segments))) }
+    ensures { IfOk result (λ head. head ≡ queue_head (trace_queue_of queue.now) (length (entries_of queue.now.segments))) }
 {
     Ok(Head {
         looper: queue.looper,
@@ -189,9 +189,9 @@ fn head_of_record(queue: &QueueRecord) -> Result<Head, NoMemory>
     })
 }
 
-#[tactic(auto, unfolding(crate::specs::Text::line_text))]
+#[tactic(auto, unfolding(crate::specs::Text::trace_line_text))]
 fn push_head(out: &mut String, head: &Head) -> Result<(), NoMemory>
-    ensures { OnOk result (string_bytes out.new ≡ string_bytes out.old ++ line_text (line_of.Queue head.now)) }
+    ensures { OnOk result (string_bytes out.new ≡ string_bytes out.old ++ trace_line_text (line_of.Queue head.now)) }
 {
     let side = one_of("main", "side", head.main);
     let mode = one_of("lockstep", "free", head.lockstep);
@@ -205,7 +205,7 @@ fn push_head(out: &mut String, head: &Head) -> Result<(), NoMemory>
 
 fn push_queues(out: &mut String, queues: &[TraceQueue]) -> Result<(), NoMemory>
     ensures { OnOk result
-        (string_bytes out.new ≡ string_bytes out.old ++ flat_map line_text (flat_map queue_lines queues.now)) }
+        (string_bytes out.new ≡ string_bytes out.old ++ flat_map trace_line_text (flat_map queue_lines queues.now)) }
 {
     for queue in queues {
         push_head(out, &head_of(queue))?;
@@ -217,7 +217,7 @@ fn push_queues(out: &mut String, queues: &[TraceQueue]) -> Result<(), NoMemory>
 /// The lines of the entries of these parts, in order.
 fn push_parts(out: &mut String, parts: &[Segment]) -> Result<(), NoMemory>
     ensures { OnOk result
-        (string_bytes out.new ≡ string_bytes out.old ++ flat_map line_text (map line_of.Entry (entries_of parts.now))) }
+        (string_bytes out.new ≡ string_bytes out.old ++ flat_map trace_line_text (map line_of.Entry (entries_of parts.now))) }
 {
     for part in parts {
         push_entries(out, part.entries.as_slice())?;
@@ -227,7 +227,7 @@ fn push_parts(out: &mut String, parts: &[Segment]) -> Result<(), NoMemory>
 
 fn push_records(out: &mut String, records: &[QueueRecord]) -> Result<(), NoMemory>
     ensures { OnOk result
-        (string_bytes out.new ≡ string_bytes out.old ++ flat_map line_text (flat_map queue_lines (map trace_queue_of records.now))) }
+        (string_bytes out.new ≡ string_bytes out.old ++ flat_map trace_line_text (flat_map queue_lines (map trace_queue_of records.now))) }
 {
     for queue in records {
         let head = head_of_record(queue)?;
@@ -240,7 +240,7 @@ fn push_records(out: &mut String, records: &[QueueRecord]) -> Result<(), NoMemor
 /// The text of the trace whose queues are those of these records, in their order. The histories are not copied. `NoMemory`
 /// where there was none.
 pub fn print_records(alloc: Global, records: &[QueueRecord]) -> Result<Vec<u8>, NoMemory>
-    ensures { IfOk result (λ bytes. bytes.items ≡ text (trace_of records.now)) }
+    ensures { IfOk result (λ bytes. bytes.items ≡ trace_text (trace_of records.now)) }
 {
     let mut out = String::new(alloc);
     writeln!(out, "trace 1")?;
@@ -251,7 +251,7 @@ pub fn print_records(alloc: Global, records: &[QueueRecord]) -> Result<Vec<u8>, 
 
 /// The text of a trace. `NoMemory` where there was none.
 pub fn print_trace(alloc: Global, trace: &Trace) -> Result<Vec<u8>, NoMemory>
-    ensures { IfOk result (λ bytes. bytes.items ≡ text trace.now) }
+    ensures { IfOk result (λ bytes. bytes.items ≡ trace_text trace.now) }
 {
     let mut out = String::new(alloc);
     writeln!(out, "trace 1")?;

@@ -15,12 +15,12 @@ use Rattle.value_animator.specs.declared.draft.Stage.{Stage}
 use Rattle.value_animator.specs.declared.draft.Stage.TheVariants.{Start, Headed, Body, Ended}
 use Rattle.animator.specs.Plans.{IsKey, IsPlan}
 use Rattle.value_animator.specs.Plans.{IsThing, AreValues}
-use Rattle.value_animator.specs.Reading.{say}
+use Rattle.value_animator.specs.Reading.{say_row}
 use Rattle.value_animator.specs.Plans.{row_text}
 use Rattle.value_animator.specs.Reading.{SoFar, may_be_placed, last_place}
 use Rattle.line_words.specs.LeastBad.{Begins}
 use Rattle.value_animator.specs.Plans.{key_row, plan_row, thing_rows, rows, values_text}
-use Rattle.value_animator.specs.Reading.{IsText}
+use Rattle.value_animator.specs.Reading.{IsPlanText}
 use Rattle.value_animator.proofs.Found.{are_theirs}
 use Rattle.value_animator.proofs.Leading.{lt_test}
 use Rattle.value_animator.proofs.Holding.{rows_in, body_rows, upto, make, SoundIn, Limits, IsOpen, rising, rising_push, rising_rise, more_thing}
@@ -30,7 +30,7 @@ abbrev pub Continues : List Row → Type 0
 Continues rs = (v : Values) × (more : List Row) × (rs ++ more ≡ rows v) × AreValues v
 
 end_row : Row
-end_row = say kind.End []
+end_row = say_row kind.End []
 
 all_within : (period : ℕ) (things : List Thing) → Limits period things → AreValues (record { period = period; things = things })
 all_within period things h = record { low = h.low; high = h.high; things = h.things_fit; few_things = h.few }
@@ -112,7 +112,7 @@ open_continues period things p h o few =
 continues : (stage : Stage) (o : Option Plan) (period : ℕ) (things : List Thing) → SoundIn stage (make stage o period things) → Continues (rows_in stage (make stage o period things))
 unfolding plain end_row
 continues Start o period things h = (plain, rows plain, refl, plain_fits)
-continues Headed o period things h = (plain, say kind.Period (1000000 ∷ []) ∷ end_row ∷ [], refl, plain_fits)
+continues Headed o period things h = (plain, say_row kind.Period (1000000 ∷ []) ∷ end_row ∷ [], refl, plain_fits)
 continues Body None period things h =
     (record { period = period; things = things }, end_row ∷ [], ap (λ l. l ++ end_row ∷ []) (append-nil (upto period things)), all_within period things h.0)
 continues Body (Some p) period things h = open_continues period things p h.0 h.1.0 h.1.1
@@ -121,7 +121,7 @@ continues Ended o period things h =
     (record { period = period; things = things }, [], append-nil (body_rows period things o ++ end_row ∷ []) ∙ ap (λ l. l ++ end_row ∷ []) none, all_within period things h.0)
 
 -- the text of the rows that a draft has seen begins the text of some values
-pub begins : (d : SoFar) → SoundIn d.stage d → Begins IsText (flat_map row_text (rows_in d.stage d))
+pub begins : (d : SoFar) → SoundIn d.stage d → Begins IsPlanText (flat_map row_text (rows_in d.stage d))
 begins d h =
     let c = continues d.stage d.open_plan d.period d.things h in
     let bytes : List ℕ = flat_map row_text (rows_in d.stage d) ++ flat_map row_text c.1 in

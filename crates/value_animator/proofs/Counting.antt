@@ -14,7 +14,7 @@ use Rattle.value_animator.specs.declared.plan.Values.{Values}
 use Rattle.value_animator.specs.declared.plan.Thing.{Thing}
 use Rattle.value_animator.specs.declared.plan.Thing.TheVariants as thing_of
 use Rattle.std.proofs.lemmas.Bool.{and_from}
-use Rattle.value_animator.specs.Run.{frame_time, frame_times, frame_lines, frames_text, line_text, all_ended, thing_end}
+use Rattle.value_animator.specs.Run.{nth_frame_time, frame_times, told_lines, frames_text, line_text, all_ended, thing_end}
 use Rattle.value_animator.specs.Plans.{AreValues, IsThing}
 use Rattle.value_animator.specs.Run.{frame_entries, going_entries}
 
@@ -22,8 +22,8 @@ use Rattle.value_animator.specs.Run.{frame_entries, going_entries}
 range_more : (a n : ℕ) → range_with_len a (n + 1) ≡ range_with_len a n ++ (a + n) ∷ []
 range_more a n = sym (map-id (range_with_len a (n + 1))) ∙ (map-range_with_len_more (λ x. x) a n (a + n) refl ∙ ap (λ l. l ++ (a + n) ∷ []) (map-id (range_with_len a n)))
 
-pub times_more : (period n : ℕ) → frame_times period (n + 1) ≡ frame_times period n ++ frame_time period n ∷ []
-times_more period n = map-range_with_len_more (frame_time period) 0 n n (omega arith)
+pub times_more : (period n : ℕ) → frame_times period (n + 1) ≡ frame_times period n ++ nth_frame_time period n ∷ []
+times_more period n = map-range_with_len_more (nth_frame_time period) 0 n n (omega arith)
 
 -- what a function of each number gives, with one number more
 each_more : {A : Type 0} (f : ℕ → List A) (n : ℕ) → flat_map f (range_with_len 0 (n + 1)) ≡ flat_map f (range_with_len 0 n) ++ f n
@@ -32,16 +32,16 @@ each_more f n =
     let more : range_with_len 0 (n + 1) ≡ range_with_len 0 n ++ n ∷ [] = range_more 0 n ∙ ap (λ m. range_with_len 0 n ++ m ∷ []) number in
     ap (flat_map f) more ∙ (flat_map-append f (range_with_len 0 n) (n ∷ []) ∙ ap (λ l. flat_map f (range_with_len 0 n) ++ l) (append-nil (f n)))
 
-pub text_more : (v : Values) (n : ℕ) → frames_text v (n + 1) ≡ frames_text v n ++ flat_map line_text (frame_lines v n)
-text_more v n = each_more (λ k. flat_map line_text (frame_lines v k)) n
+pub text_more : (v : Values) (n : ℕ) → frames_text v (n + 1) ≡ frames_text v n ++ flat_map line_text (told_lines v n)
+text_more v n = each_more (λ k. flat_map line_text (told_lines v k)) n
 
-pub going_more : (period n : ℕ) → going_entries period (n + 1) ≡ going_entries period n ++ frame_entries (frame_time period n) n false
-going_more period n = each_more (λ k. frame_entries (frame_time period k) k false) n
+pub going_more : (period n : ℕ) → going_entries period (n + 1) ≡ going_entries period n ++ frame_entries (nth_frame_time period n) n false
+going_more period n = each_more (λ k. frame_entries (nth_frame_time period k) k false) n
 
 -- ---- pulses
 
 -- the pulse after a frame's time is that of the next frame
-pub next_pulse : (period k : ℕ) → 0 < period → period ≤ 1000000000 → k ≤ 60001 → pulse period (frame_time period k) ≡ frame_time period (k + 1)
+pub next_pulse : (period k : ℕ) → 0 < period → period ≤ 1000000000 → k ≤ 60001 → pulse period (nth_frame_time period k) ≡ nth_frame_time period (k + 1)
 next_pulse period k some high few =
     let whole : (k + 1) * period / period ≡ k + 1 = mul-div_left (k + 1) some in
     let small : (k + 1 + 1) * period ≤ 60003 * 1000000000 = mul-le (k + 1 + 1) period 60003 1000000000 (omega arith) high in
@@ -49,7 +49,7 @@ next_pulse period k some high few =
     rw (whole, first) refl
 
 -- the next frame is later
-pub later_frame : (period k : ℕ) → frame_time period k ≤ frame_time period (k + 1)
+pub later_frame : (period k : ℕ) → nth_frame_time period k ≤ nth_frame_time period (k + 1)
 later_frame period k = mul-le-mul_right period (omega arith)
 
 -- ---- the end comes
@@ -61,10 +61,10 @@ product_more n period = omega arith
 spans : (period n : ℕ) → 1000000 ≤ period → n ≤ elapsed (frame_times period (suc n))
 spans period n low =
     let one : n + 1 ≡ suc n = omega arith in
-    let times : frame_times period (suc n) ≡ frame_times period n ++ frame_time period n ∷ [] =
-    subst (λ m. frame_times period m ≡ frame_times period n ++ frame_time period n ∷ []) one (times_more period n) in
-    let greatest : latest (frame_times period (suc n)) ≡ max (latest (frame_times period n)) (frame_time period n) =
-    ap latest times ∙ latest-push (frame_times period n) (frame_time period n) in
+    let times : frame_times period (suc n) ≡ frame_times period n ++ nth_frame_time period n ∷ [] =
+    subst (λ m. frame_times period m ≡ frame_times period n ++ nth_frame_time period n ∷ []) one (times_more period n) in
+    let greatest : latest (frame_times period (suc n)) ≡ max (latest (frame_times period n)) (nth_frame_time period n) =
+    ap latest times ∙ latest-push (frame_times period n) (nth_frame_time period n) in
     let part : n * 1000000 ≤ n * period = mul-le-mul_left n low in
     let joined : (n + 1) * period ≡ n * period + period = product_more n period in
     let start : (0 + 1) * period ≡ period = omega arith in

@@ -6,11 +6,11 @@ use Rattle.std.proofs.lemmas.Bool.Decides.{nat_tests}
 use Rattle.frame_phases.specs.declared.entry.Callback.{Callback}
 use Rattle.frame_phases.specs.declared.entry.FrameEntry.{FrameEntry}
 use Rattle.frame_phases.specs.declared.entry.FrameEntry.TheVariants.{Posted, Begin, Take, Ran}
-use Rattle.frame_phases.specs.Frames.{live, next_phase, last_time, posted_count, taken, take_time, commit_time, is_due, is_undue, in_due_order, before_later}
+use Rattle.frame_phases.specs.Frames.{live_callbacks, next_phase, last_time, posted_count, taken_callbacks, take_time, commit_time, is_due, is_undue, in_due_order, before_later}
 use Rattle.frame_phases.specs.Pulses.{pulse}
 use Rattle.frame_phases.specs.State.{Frames, past, ran, delivered}
-use Rattle.value_animator.specs.Framing.{begun, taken_at, posted_again, last_number, IsReady, after_frame}
-use Rattle.value_animator.specs.Run.{callback, again, frame_entries}
+use Rattle.value_animator.specs.Framing.{begun, taken_at, posted_again, last_number, IsFrameReady, after_frame}
+use Rattle.value_animator.specs.Run.{due_callback, again, frame_entries}
 
 -- the state with more entries, and another schedule
 abbrev pub grown : Frames → List FrameEntry → Bool → Option ℕ → Frames
@@ -21,19 +21,19 @@ pub record Stands (s : Frames) (at : Option ℕ) (time : ℕ) (alive : List Call
   pub phases : s.phases ≡ 4
   pub next : next_phase 4 (past s) ≡ at
   pub last : last_time (past s) ≡ time
-  pub live : live (past s) ≡ alive
+  pub live : live_callbacks (past s) ≡ alive
   pub posted : posted_count (past s) ≡ count
 
 time_of_none : (b : Bool) (x y : ℕ) → cond (b && false) x y ≡ y
 time_of_none true x y = refl
 time_of_none false x y = refl
 
-nothing_of : (es : List FrameEntry) (phase p : ℕ) (alive : List Callback) → live es ≡ alive → filter (is_due phase (p / 1000000)) alive ≡ []
-    → taken es phase p ≡ []
+nothing_of : (es : List FrameEntry) (phase p : ℕ) (alive : List Callback) → live_callbacks es ≡ alive → filter (is_due phase (p / 1000000)) alive ≡ []
+    → taken_callbacks es phase p ≡ []
 unfolding in_due_order
 nothing_of es phase p alive e none = rw (e, none) refl
 
-time_of : (interval phases : ℕ) (es : List FrameEntry) (phase p time : ℕ) → taken es phase p ≡ [] → last_time es ≡ time
+time_of : (interval phases : ℕ) (es : List FrameEntry) (phase p time : ℕ) → taken_callbacks es phase p ≡ [] → last_time es ≡ time
     → take_time interval phases es phase p ≡ time
 time_of interval phases es phase p time none last = rw (none, last) (time_of_none (phase + 1 == phases) (commit_time interval time p) time)
 
@@ -43,36 +43,36 @@ pub took_nothing : (s : Frames) (more : List FrameEntry) (scheduled : Bool) (ask
     → taken_at (grown s more scheduled asked) phase p ≡ grown s (more ++ Take phase p time ∷ []) scheduled asked
 took_nothing s more scheduled asked at phase p time count alive h none =
     let es : List FrameEntry = past (grown s more scheduled asked) in
-    let nothing : taken es phase p ≡ [] = nothing_of es phase p alive h.live none in
+    let nothing : taken_callbacks es phase p ≡ [] = nothing_of es phase p alive h.live none in
     let when : take_time s.interval s.phases es phase p ≡ time = time_of s.interval s.phases es phase p time nothing h.last in
-    let entries : (s.entries ++ more) ++ Take phase p (take_time s.interval s.phases es phase p) ∷ map ran (taken es phase p) ≡ s.entries ++ (more ++ Take phase p time ∷ []) =
-    ap (λ t. (s.entries ++ more) ++ Take phase p t ∷ map ran (taken es phase p)) when
+    let entries : (s.entries ++ more) ++ Take phase p (take_time s.interval s.phases es phase p) ∷ map ran (taken_callbacks es phase p) ≡ s.entries ++ (more ++ Take phase p time ∷ []) =
+    ap (λ t. (s.entries ++ more) ++ Take phase p t ∷ map ran (taken_callbacks es phase p)) when
     ∙ (ap (λ cs. (s.entries ++ more) ++ Take phase p time ∷ map ran cs) nothing ∙ append_assoc s.entries more (Take phase p time ∷ [])) in
     ap (λ (es : List FrameEntry). record s { entries = es; scheduled = scheduled; asked = asked }) entries
 
 -- the animation phase takes the callback, which is due
 pub took_callback : (s : Frames) (more : List FrameEntry) (scheduled : Bool) (asked : Option ℕ) (at : Option ℕ) (p time count number due : ℕ)
-    → Stands (grown s more scheduled asked) at time (callback number due ∷ []) count → due ≤ p / 1000000
+    → Stands (grown s more scheduled asked) at time (due_callback number due ∷ []) count → due ≤ p / 1000000
     → taken_at (grown s more scheduled asked) 1 p ≡ grown s (more ++ Take 1 p time ∷ Ran number ∷ []) scheduled asked
 unfolding in_due_order before_later
 took_callback s more scheduled asked at p time count number due h le =
     let es : List FrameEntry = past (grown s more scheduled asked) in
     let test : nat_le due (p / 1000000) ≡ true = grind (arith, nat_tests) in
-    let one : taken es 1 p ≡ callback number due ∷ [] = rw (h.live, test) refl in
+    let one : taken_callbacks es 1 p ≡ due_callback number due ∷ [] = rw (h.live, test) refl in
     let when : take_time s.interval s.phases es 1 p ≡ time = rw h.phases h.last in
-    let entries : (s.entries ++ more) ++ Take 1 p (take_time s.interval s.phases es 1 p) ∷ map ran (taken es 1 p) ≡ s.entries ++ (more ++ Take 1 p time ∷ Ran number ∷ []) =
-    ap (λ t. (s.entries ++ more) ++ Take 1 p t ∷ map ran (taken es 1 p)) when
+    let entries : (s.entries ++ more) ++ Take 1 p (take_time s.interval s.phases es 1 p) ∷ map ran (taken_callbacks es 1 p) ≡ s.entries ++ (more ++ Take 1 p time ∷ Ran number ∷ []) =
+    ap (λ t. (s.entries ++ more) ++ Take 1 p t ∷ map ran (taken_callbacks es 1 p)) when
     ∙ (ap (λ cs. (s.entries ++ more) ++ Take 1 p time ∷ map ran cs) one ∙ append_assoc s.entries more (Take 1 p time ∷ Ran number ∷ [])) in
     ap (λ (es : List FrameEntry). record s { entries = es; scheduled = scheduled; asked = asked }) entries
 
 -- the callback is posted again
 pub posted_more : (s : Frames) (more : List FrameEntry) (asked : Option ℕ) (at : Option ℕ) (p time number : ℕ) (alive : List Callback)
     → Stands (grown s more false asked) at time alive (number + 1)
-    → posted_again (grown s more false asked) false p ≡ grown s (more ++ Posted (callback (number + 1) (p / 1000000)) ∷ []) true (Some (pulse s.interval p))
+    → posted_again (grown s more false asked) false p ≡ grown s (more ++ Posted (due_callback (number + 1) (p / 1000000)) ∷ []) true (Some (pulse s.interval p))
 posted_more s more asked at p time number alive h =
     let test : nat_lt (p / 1000000) (p / 1000000) ≡ false = grind (arith, nat_tests) in
-    let entries : (s.entries ++ more) ++ Posted (callback (number + 1) (p / 1000000)) ∷ [] ≡ s.entries ++ (more ++ Posted (callback (number + 1) (p / 1000000)) ∷ []) =
-    append_assoc s.entries more (Posted (callback (number + 1) (p / 1000000)) ∷ []) in
+    let entries : (s.entries ++ more) ++ Posted (due_callback (number + 1) (p / 1000000)) ∷ [] ≡ s.entries ++ (more ++ Posted (due_callback (number + 1) (p / 1000000)) ∷ []) =
+    append_assoc s.entries more (Posted (due_callback (number + 1) (p / 1000000)) ∷ []) in
     rw (test, h.posted) (ap (λ (es : List FrameEntry). record s { entries = es; scheduled = true; asked = Some (pulse s.interval p) }) entries)
 
 -- ---- the steps of a frame
@@ -96,7 +96,7 @@ six p n ended = five p n ended ++ Take 2 p p ∷ []
 -- the callbacks that wait behind the animation phase
 abbrev pub waiting : ℕ → ℕ → Bool → List Callback
 waiting p n true = []
-waiting p n false = callback (n + 1) (p / 1000000) ∷ []
+waiting p n false = due_callback (n + 1) (p / 1000000) ∷ []
 
 -- how many callbacks were posted by then
 abbrev pub postings : ℕ → Bool → ℕ
@@ -106,11 +106,11 @@ postings n false = n + 2
 past_more : (s : Frames) (more : List FrameEntry) → reverse (s.entries ++ more) ≡ reverse more ++ reverse s.entries
 past_more s more = reverse-append s.entries more
 
-count_is : (s : Frames) (p : ℕ) → IsReady s p → posted_count (past s) ≡ last_number s + 1
+count_is : (s : Frames) (p : ℕ) → IsFrameReady s p → posted_count (past s) ≡ last_number s + 1
 count_is s p h = let some : 0 < posted_count (past s) = h.some_posted in omega arith
 
-pub two_stands : (s : Frames) (p : ℕ) (a : Option ℕ) (h : IsReady s p) → Stands (grown s (two p) false a) (Some 0) p (callback (last_number s) h.due ∷ []) (last_number s + 1)
-unfolding next_phase last_time live posted_count
+pub two_stands : (s : Frames) (p : ℕ) (a : Option ℕ) (h : IsFrameReady s p) → Stands (grown s (two p) false a) (Some 0) p (due_callback (last_number s) h.due ∷ []) (last_number s + 1)
+unfolding next_phase last_time live_callbacks posted_count
 two_stands s p a h = record {
   phases = h.phases;
   next = rw (past_more s (two p)) refl;
@@ -119,8 +119,8 @@ two_stands s p a h = record {
   posted = rw (past_more s (two p)) (count_is s p h);
 }
 
-pub three_stands : (s : Frames) (p : ℕ) (a : Option ℕ) (h : IsReady s p) → Stands (grown s (three p) false a) (Some 1) p (callback (last_number s) h.due ∷ []) (last_number s + 1)
-unfolding next_phase last_time live posted_count
+pub three_stands : (s : Frames) (p : ℕ) (a : Option ℕ) (h : IsFrameReady s p) → Stands (grown s (three p) false a) (Some 1) p (due_callback (last_number s) h.due ∷ []) (last_number s + 1)
+unfolding next_phase last_time live_callbacks posted_count
 three_stands s p a h = record {
   phases = h.phases;
   next = rw (past_more s (three p)) refl;
@@ -129,8 +129,8 @@ three_stands s p a h = record {
   posted = rw (past_more s (three p)) (count_is s p h);
 }
 
-pub four_stands : (s : Frames) (p : ℕ) (a : Option ℕ) (h : IsReady s p) → Stands (grown s (four p (last_number s)) false a) (Some 2) p [] (last_number s + 1)
-unfolding next_phase last_time live posted_count
+pub four_stands : (s : Frames) (p : ℕ) (a : Option ℕ) (h : IsFrameReady s p) → Stands (grown s (four p (last_number s)) false a) (Some 2) p [] (last_number s + 1)
+unfolding next_phase last_time live_callbacks posted_count
 four_stands s p a h =
     let due : ℕ = h.due in
     let le : due ≤ p / 1000000 = h.is_due in
@@ -144,15 +144,15 @@ four_stands s p a h =
     }
 
 -- without the callback all is as before the posting
-pub five_is : (s : Frames) (p : ℕ) (a : Option ℕ) (ended : Bool) (h : IsReady s p)
+pub five_is : (s : Frames) (p : ℕ) (a : Option ℕ) (ended : Bool) (h : IsFrameReady s p)
     → posted_again (grown s (four p (last_number s)) false None) ended p
     ≡ grown s (five p (last_number s) ended) (not ended) (cond ended None (Some (pulse s.interval p)))
 five_is s p a true h = refl
 five_is s p a false h = posted_more s (four p (last_number s)) None (Some 2) p p (last_number s) [] (four_stands s p None h)
 
-pub five_stands : (s : Frames) (p : ℕ) (ended : Bool) (b : Bool) (a : Option ℕ) (h : IsReady s p)
+pub five_stands : (s : Frames) (p : ℕ) (ended : Bool) (b : Bool) (a : Option ℕ) (h : IsFrameReady s p)
     → Stands (grown s (five p (last_number s) ended) b a) (Some 2) p (waiting p (last_number s) ended) (postings (last_number s) ended)
-unfolding next_phase last_time live posted_count
+unfolding next_phase last_time live_callbacks posted_count
 five_stands s p true b a h =
     let q = four_stands s p None h in record { phases = q.phases; next = q.next; last = q.last; live = q.live; posted = q.posted }
 five_stands s p false b a h =
@@ -169,9 +169,9 @@ five_stands s p false b a h =
       posted = rw (past_more s (five p (last_number s) false)) more;
     }
 
-pub six_stands : (s : Frames) (p : ℕ) (ended : Bool) (b : Bool) (a : Option ℕ) (h : IsReady s p)
+pub six_stands : (s : Frames) (p : ℕ) (ended : Bool) (b : Bool) (a : Option ℕ) (h : IsFrameReady s p)
     → Stands (grown s (six p (last_number s) ended) b a) (Some 3) p (waiting p (last_number s) ended) (postings (last_number s) ended)
-unfolding next_phase last_time live posted_count
+unfolding next_phase last_time live_callbacks posted_count
 six_stands s p ended b a h =
     let q = five_stands s p ended b a h in
     let e : reverse (s.entries ++ six p (last_number s) ended) ≡ Take 2 p p ∷ reverse (s.entries ++ five p (last_number s) ended) =
@@ -193,7 +193,7 @@ none_due phase p n true other = refl
 none_due phase p n false other = rw other refl
 
 -- all that a frame leaves
-pub frame_is : (s : Frames) (p : ℕ) (ended : Bool) (h : IsReady s p)
+pub frame_is : (s : Frames) (p : ℕ) (ended : Bool) (h : IsFrameReady s p)
     → taken_at (grown s (six p (last_number s) ended) (not ended) (cond ended None (Some (pulse s.interval p)))) 3 p ≡ after_frame s p ended
 frame_is s p ended h =
     took_nothing s (six p (last_number s) ended) (not ended) (cond ended None (Some (pulse s.interval p))) (Some 3) 3 p p (postings (last_number s) ended)
@@ -217,11 +217,11 @@ step_one s x p r asked is new =
 pub step_two : (s x y : Frames) (p : ℕ) → x ≡ record s { asked = None } → y ≡ begun x p → y ≡ grown s (two p) false None
 step_two s x y p e new = new ∙ ap (λ z. begun z p) e
 
-pub step_three : (s x y : Frames) (p : ℕ) → IsReady s p → x ≡ grown s (two p) false None → y ≡ taken_at x 0 p → y ≡ grown s (three p) false None
+pub step_three : (s x y : Frames) (p : ℕ) → IsFrameReady s p → x ≡ grown s (two p) false None → y ≡ taken_at x 0 p → y ≡ grown s (three p) false None
 step_three s x y p h e new =
-    new ∙ (ap (λ z. taken_at z 0 p) e ∙ took_nothing s (two p) false None (Some 0) 0 p p (last_number s + 1) (callback (last_number s) h.due ∷ []) (two_stands s p None h) refl)
+    new ∙ (ap (λ z. taken_at z 0 p) e ∙ took_nothing s (two p) false None (Some 0) 0 p p (last_number s + 1) (due_callback (last_number s) h.due ∷ []) (two_stands s p None h) refl)
 
-pub step_four : (s x y : Frames) (p : ℕ) → IsReady s p → x ≡ grown s (three p) false None → y ≡ taken_at x 1 p → y ≡ grown s (four p (last_number s)) false None
+pub step_four : (s x y : Frames) (p : ℕ) → IsFrameReady s p → x ≡ grown s (three p) false None → y ≡ taken_at x 1 p → y ≡ grown s (four p (last_number s)) false None
 step_four s x y p h e new =
     new ∙ (ap (λ z. taken_at z 1 p) e ∙ took_callback s (three p) false None (Some 1) p p (last_number s + 1) (last_number s) h.due (three_stands s p None h) h.is_due)
 
@@ -229,17 +229,17 @@ step_four s x y p h e new =
 abbrev pub asked_for : Frames → ℕ → Bool → Option ℕ
 asked_for s p ended = cond ended None (Some (pulse s.interval p))
 
-pub step_five : (s x y : Frames) (p : ℕ) (ended : Bool) → IsReady s p → x ≡ grown s (four p (last_number s)) false None → y ≡ posted_again x ended p
+pub step_five : (s x y : Frames) (p : ℕ) (ended : Bool) → IsFrameReady s p → x ≡ grown s (four p (last_number s)) false None → y ≡ posted_again x ended p
     → y ≡ grown s (five p (last_number s) ended) (not ended) (asked_for s p ended)
 step_five s x y p ended h e new = new ∙ (ap (λ z. posted_again z ended p) e ∙ five_is s p None ended h)
 
-pub step_six : (s x y : Frames) (p : ℕ) (ended : Bool) → IsReady s p → x ≡ grown s (five p (last_number s) ended) (not ended) (asked_for s p ended) → y ≡ taken_at x 2 p
+pub step_six : (s x y : Frames) (p : ℕ) (ended : Bool) → IsFrameReady s p → x ≡ grown s (five p (last_number s) ended) (not ended) (asked_for s p ended) → y ≡ taken_at x 2 p
     → y ≡ grown s (six p (last_number s) ended) (not ended) (asked_for s p ended)
 step_six s x y p ended h e new =
     new ∙ (ap (λ z. taken_at z 2 p) e ∙ took_nothing s (five p (last_number s) ended) (not ended) (asked_for s p ended) (Some 2) 2 p p (postings (last_number s) ended)
     (waiting p (last_number s) ended) (five_stands s p ended (not ended) (asked_for s p ended) h) (none_due 2 p (last_number s) ended refl))
 
-pub step_seven : (s x y : Frames) (p : ℕ) (ended : Bool) → IsReady s p → x ≡ grown s (six p (last_number s) ended) (not ended) (asked_for s p ended) → y ≡ taken_at x 3 p
+pub step_seven : (s x y : Frames) (p : ℕ) (ended : Bool) → IsFrameReady s p → x ≡ grown s (six p (last_number s) ended) (not ended) (asked_for s p ended) → y ≡ taken_at x 3 p
     → y ≡ after_frame s p ended
 step_seven s x y p ended h e new = new ∙ (ap (λ z. taken_at z 3 p) e ∙ frame_is s p ended h)
 
@@ -250,9 +250,9 @@ next_at x y phase time count alive e st =
 
 -- ---- the next frame
 
-pub again_stands : (s : Frames) (p : ℕ) (h : IsReady s p)
-    → Stands (after_frame s p false) None p (callback (last_number s + 1) (p / 1000000) ∷ []) (last_number s + 2)
-unfolding next_phase last_time live posted_count
+pub again_stands : (s : Frames) (p : ℕ) (h : IsFrameReady s p)
+    → Stands (after_frame s p false) None p (due_callback (last_number s + 1) (p / 1000000) ∷ []) (last_number s + 2)
+unfolding next_phase last_time live_callbacks posted_count
 again_stands s p h =
     let due : ℕ = h.due in
     let le : due ≤ p / 1000000 = h.is_due in
@@ -268,13 +268,13 @@ again_stands s p h =
     }
 
 -- the state after a frame that posts again is ready for the next pulse
-pub ready_again : (s : Frames) (p q : ℕ) → IsReady s p → q ≡ pulse s.interval p → p ≤ q → IsReady (after_frame s p false) q
+pub ready_again : (s : Frames) (p q : ℕ) → IsFrameReady s p → q ≡ pulse s.interval p → p ≤ q → IsFrameReady (after_frame s p false) q
 ready_again s p q h e le =
     let st = again_stands s p h in
     let count : posted_count (past (after_frame s p false)) ≡ last_number s + 2 = st.posted in
     let number : last_number (after_frame s p false) ≡ last_number s + 1 = omega arith in
     let last_is : last_time (past (after_frame s p false)) ≡ p = st.last in
-    let alive : live (past (after_frame s p false)) ≡ callback (last_number s + 1) (p / 1000000) ∷ [] = st.live in
+    let alive : live_callbacks (past (after_frame s p false)) ≡ due_callback (last_number s + 1) (p / 1000000) ∷ [] = st.live in
     record {
       phases = h.phases;
       interval = h.interval;
@@ -285,5 +285,5 @@ ready_again s p q h e le =
       some_posted = omega arith;
       due = p / 1000000;
       is_due = omega arith;
-      live = alive ∙ ap (λ n. callback n (p / 1000000) ∷ []) (sym number);
+      live = alive ∙ ap (λ n. due_callback n (p / 1000000) ∷ []) (sym number);
     }

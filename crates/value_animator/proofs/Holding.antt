@@ -21,12 +21,12 @@ use Rattle.value_animator.specs.declared.draft.Stage.{Stage}
 use Rattle.value_animator.specs.declared.draft.Stage.TheVariants.{Start, Headed, Body, Ended}
 use Rattle.animator.specs.Plans.{IsKey, IsPlan, rise, rise_from}
 use Rattle.value_animator.specs.Plans.{IsThing, AreValues}
-use Rattle.value_animator.specs.Reading.{form, say}
-use Rattle.value_animator.specs.Reading.{SoFar, cause_of, with_row, last_place, may_be_placed, key_of, plan_of}
+use Rattle.value_animator.specs.Reading.{row_form, say_row}
+use Rattle.value_animator.specs.Reading.{SoFar, row_cause, with_row, last_place, may_be_placed, key_of, keyless_plan}
 use Rattle.line_words.specs.RefusedReading.{goes_on, run}
 use Rattle.line_words.proofs.Refusing.{answer}
 use Rattle.value_animator.specs.Plans.{key_row, plan_row, thing_rows, rows}
-use Rattle.value_animator.specs.Reading.{plans, values_of, cause_at_stop}
+use Rattle.value_animator.specs.Reading.{plans, values_of, plan_stop_cause}
 use Rattle.value_animator.proofs.Limits.{key_fits, countdown_fits, restart_fits, reverse_fits, period_fits, WayFits}
 use Rattle.std.specs.List.{AllByRecursion}
 use Rattle.value_animator.proofs.Lines.{IsGood, good_is}
@@ -42,13 +42,13 @@ open_rows (Some p) = plan_row p ∷ map key_row p.keys
 
 -- the rows from the first on to the last key
 abbrev pub body_rows : ℕ → List Thing → Option Plan → List Row
-body_rows period things o = (say kind.Head [] ∷ say kind.Period (period ∷ []) ∷ flat_map thing_rows things) ++ open_rows o
+body_rows period things o = (say_row kind.Head [] ∷ say_row kind.Period (period ∷ []) ∷ flat_map thing_rows things) ++ open_rows o
 
 abbrev pub rows_in : Stage → SoFar → List Row
 rows_in Start d = []
-rows_in Headed d = say kind.Head [] ∷ []
+rows_in Headed d = say_row kind.Head [] ∷ []
 rows_in Body d = body_rows d.period d.things d.open_plan
-rows_in Ended d = body_rows d.period d.things d.open_plan ++ say kind.End [] ∷ []
+rows_in Ended d = body_rows d.period d.things d.open_plan ++ say_row kind.End [] ∷ []
 
 -- ---- what holds of a draft
 
@@ -161,12 +161,12 @@ make stage o period things = record { period = period; things = things; open_pla
 
 -- the rows up to the things
 abbrev pub upto : ℕ → List Thing → List Row
-upto period things = say kind.Head [] ∷ say kind.Period (period ∷ []) ∷ flat_map thing_rows things
+upto period things = say_row kind.Head [] ∷ say_row kind.Period (period ∷ []) ∷ flat_map thing_rows things
 
 pub more_thing : (period : ℕ) (things : List Thing) (t : Thing) → body_rows period (things ++ t ∷ []) None ≡ upto period things ++ thing_rows t
 more_thing period things t =
     append-nil (upto period (things ++ t ∷ []))
-    ∙ ap (λ (l : List Row). say kind.Head [] ∷ say kind.Period (period ∷ []) ∷ l) (flat_map-append thing_rows things (t ∷ []) ∙ ap (λ l. flat_map thing_rows things ++ l) (append-nil (thing_rows t)))
+    ∙ ap (λ (l : List Row). say_row kind.Head [] ∷ say_row kind.Period (period ∷ []) ∷ l) (flat_map-append thing_rows things (t ∷ []) ∙ ap (λ l. flat_map thing_rows things ++ l) (append-nil (thing_rows t)))
 
 le_is : (m n : ℕ) → nat_le m n ≡ true → m ≤ n
 le_is m n h = grind (arith, nat_tests)
@@ -174,7 +174,7 @@ le_is m n h = grind (arith, nat_tests)
 lt_is : (m n : ℕ) → nat_lt m n ≡ true → m < n
 lt_is m n h = grind (arith, nat_tests)
 
-start_open : (b : Bool) (ns : List ℕ) → WayFits ns → nat_le (slice_index ns 0 + slice_index ns 1 * (slice_index ns 2 + 1)) 60000 ≡ true → IsOpen (plan_of b ns)
+start_open : (b : Bool) (ns : List ℕ) → WayFits ns → nat_le (slice_index ns 0 + slice_index ns 1 * (slice_index ns 2 + 1)) 60000 ≡ true → IsOpen (keyless_plan b ns)
 start_open b ns h ways = record {
   delay = h.delay;
   duration = h.duration;
@@ -189,15 +189,15 @@ start_open b ns h ways = record {
 
 -- the rows with one key more
 key_rows : (period : ℕ) (things : List Thing) (p : Plan) (ns : List ℕ) → 2 ≡ length ns
-    → upto period things ++ (plan_row p ∷ map key_row (p.keys ++ key_of ns ∷ [])) ≡ body_rows period things (Some p) ++ say kind.Key ns ∷ []
+    → upto period things ++ (plan_row p ∷ map key_row (p.keys ++ key_of ns ∷ [])) ≡ body_rows period things (Some p) ++ say_row kind.Key ns ∷ []
 key_rows period things p ns two =
     ap (λ (l : List Row). upto period things ++ (plan_row p ∷ l)) (map-append key_row p.keys (key_of ns ∷ []))
-    ∙ (ap (λ (n : List ℕ). upto period things ++ (plan_row p ∷ (map key_row p.keys ++ say kind.Key n ∷ []))) (sym (two_numbers ns two))
-    ∙ sym (append_assoc (upto period things) (plan_row p ∷ map key_row p.keys) (say kind.Key ns ∷ [])))
+    ∙ (ap (λ (n : List ℕ). upto period things ++ (plan_row p ∷ (map key_row p.keys ++ say_row kind.Key n ∷ []))) (sym (two_numbers ns two))
+    ∙ sym (append_assoc (upto period things) (plan_row p ∷ map key_row p.keys) (say_row kind.Key ns ∷ [])))
 
 key_steps : (period : ℕ) (things : List Thing) (p : Plan) (ns : List ℕ) (b : Bool) → (slice_index ns 0 == 1000) ≡ b → 2 ≡ length ns
-    → IsGood (make Body (Some p) period things) (say kind.Key ns) → Limits period things → IsOpen p → length things ≤ 15
-    → Steps (make Body (Some p) period things) (say kind.Key ns)
+    → IsGood (make Body (Some p) period things) (say_row kind.Key ns) → Limits period things → IsOpen p → length things ≤ 15
+    → Steps (make Body (Some p) period things) (say_row kind.Key ns)
     (if b then make Body None period (things ++ thing_of.Animator (record p { keys = p.keys ++ key_of ns ∷ [] }) ∷ [])
     else make Body (Some (record p { keys = p.keys ++ key_of ns ∷ [] })) period things)
 key_steps period things p ns true top two good h o few =
@@ -252,15 +252,15 @@ key_steps period things p ns false top two good h o few =
       | inr top ↦ let wrong : false ≡ true = sym other ∙ top in absurd cc
     ]
 
-pub step : (stage : Stage) (o : Option Plan) (k : RowKind) (period : ℕ) (things : List Thing) (ns : List ℕ) → hole_count (form k) ≡ length ns
-    → IsGood (make stage o period things) (say k ns) → SoundIn stage (make stage o period things) → Steps (make stage o period things) (say k ns) (with_row (make stage o period things) k ns)
+pub step : (stage : Stage) (o : Option Plan) (k : RowKind) (period : ℕ) (things : List Thing) (ns : List ℕ) → hole_count (row_form k) ≡ length ns
+    → IsGood (make stage o period things) (say_row k ns) → SoundIn stage (make stage o period things) → Steps (make stage o period things) (say_row k ns) (with_row (make stage o period things) k ns)
 step Start o kind.Head period things ns c good h =
-    record { rows = ap (λ (n : List ℕ). say kind.Head n ∷ []) (sym (no_number ns c)); sound = h }
+    record { rows = ap (λ (n : List ℕ). say_row kind.Head n ∷ []) (sym (no_number ns c)); sound = h }
 step Headed o kind.Period period things ns c good h =
     let fits = period_fits ns good.fits in
     let none : length things ≡ 0 = ap length h.0 in
     record {
-      rows = ap (λ ts. body_rows (slice_index ns 0) ts o) h.0 ∙ (ap (λ q. body_rows (slice_index ns 0) [] q) h.1 ∙ ap (λ (n : List ℕ). say kind.Head [] ∷ say kind.Period n ∷ []) (sym (one_number ns c)));
+      rows = ap (λ ts. body_rows (slice_index ns 0) ts o) h.0 ∙ (ap (λ q. body_rows (slice_index ns 0) [] q) h.1 ∙ ap (λ (n : List ℕ). say_row kind.Head [] ∷ say_row kind.Period n ∷ []) (sym (one_number ns c)));
       sound = (record { low = fits.0; high = fits.1; things_fit = subst (λ ts. All IsThing ts) (sym h.0) (All-nil IsThing); few = omega arith }, subst (λ q. OpenFits things q) (sym h.1) tt);
     }
 step Body None kind.Countdown period things ns c good h =
@@ -268,23 +268,23 @@ step Body None kind.Countdown period things ns c good h =
     let room : length things < 16 = lt_is (length things) 16 good.room in
     let few : length (things ++ t ∷ []) ≤ 16 = omega (arith, length-append things (t ∷ [])) in
     record {
-      rows = more_thing period things t ∙ (ap (λ (n : List ℕ). upto period things ++ say kind.Countdown n ∷ []) (sym (two_numbers ns c)) ∙ ap (λ l. l ++ say kind.Countdown ns ∷ []) (sym (append-nil (upto period things))));
+      rows = more_thing period things t ∙ (ap (λ (n : List ℕ). upto period things ++ say_row kind.Countdown n ∷ []) (sym (two_numbers ns c)) ∙ ap (λ l. l ++ say_row kind.Countdown ns ∷ []) (sym (append-nil (upto period things))));
       sound = (record { low = h.0.low; high = h.0.high; things_fit = All-push IsThing things t h.0.things_fit (countdown_fits ns good.fits); few = few }, tt);
     }
 step Body None kind.Restart period things ns c good h =
     let room : length things < 16 = lt_is (length things) 16 good.room in
     record {
-      rows = ap (λ (n : List ℕ). upto period things ++ say kind.Restart n ∷ []) (sym (three_numbers ns c)) ∙ ap (λ l. l ++ say kind.Restart ns ∷ []) (sym (append-nil (upto period things)));
+      rows = ap (λ (n : List ℕ). upto period things ++ say_row kind.Restart n ∷ []) (sym (three_numbers ns c)) ∙ ap (λ l. l ++ say_row kind.Restart ns ∷ []) (sym (append-nil (upto period things)));
       sound = (h.0, (start_open false ns (restart_fits ns good.fits) good.ways, omega arith));
     }
 step Body None kind.Reverse period things ns c good h =
     let room : length things < 16 = lt_is (length things) 16 good.room in
     record {
-      rows = ap (λ (n : List ℕ). upto period things ++ say kind.Reverse n ∷ []) (sym (three_numbers ns c)) ∙ ap (λ l. l ++ say kind.Reverse ns ∷ []) (sym (append-nil (upto period things)));
+      rows = ap (λ (n : List ℕ). upto period things ++ say_row kind.Reverse n ∷ []) (sym (three_numbers ns c)) ∙ ap (λ l. l ++ say_row kind.Reverse ns ∷ []) (sym (append-nil (upto period things)));
       sound = (h.0, (start_open true ns (reverse_fits ns good.fits) good.ways, omega arith));
     }
 step Body None kind.End period things ns c good h =
-    record { rows = ap (λ (n : List ℕ). body_rows period things None ++ say kind.End n ∷ []) (sym (no_number ns c)); sound = (h.0, refl) }
+    record { rows = ap (λ (n : List ℕ). body_rows period things None ++ say_row kind.End n ∷ []) (sym (no_number ns c)); sound = (h.0, refl) }
 step Body (Some p) kind.Key period things ns c good h = key_steps period things p ns (slice_index ns 0 == 1000) refl c good h.0 h.1.0 h.1.1
 step stage o k period things ns c good h = let wrong : false ≡ true = good.stands in absurd cc
 
@@ -295,7 +295,7 @@ pub record Held (d : SoFar) (rs : List Row) (v : Values) : Type 0 where
   pub limits : AreValues v
 
 held_end : (stage : Stage) (o : Option Plan) (period : ℕ) (things : List Thing) (k : ℕ) (v : Values) → SoundIn stage (make stage o period things)
-    → goes_on k (cause_at_stop (make stage o period things) []) (make stage o period things) (λ e. answer (values_of e)) ≡ answer v → Held (make stage o period things) [] v
+    → goes_on k (plan_stop_cause (make stage o period things) []) (make stage o period things) (λ e. answer (values_of e)) ≡ answer v → Held (make stage o period things) [] v
 held_end Start o period things k v h e = absurd cc
 held_end Headed o period things k v h e = absurd cc
 held_end Body o period things k v h e = absurd cc
@@ -303,13 +303,13 @@ held_end Ended o period things k v h e =
     let made : Values = record { period = period; things = things } in
     let same : made ≡ v = cc in
     let here : Held (make Ended o period things) [] made = record {
-      rows_are = append-nil (body_rows period things o ++ say kind.End [] ∷ [])
-          ∙ (ap (λ q. body_rows period things q ++ say kind.End [] ∷ []) h.1 ∙ ap (λ l. l ++ say kind.End [] ∷ []) (append-nil (upto period things)));
+      rows_are = append-nil (body_rows period things o ++ say_row kind.End [] ∷ [])
+          ∙ (ap (λ q. body_rows period things q ++ say_row kind.End [] ∷ []) h.1 ∙ ap (λ l. l ++ say_row kind.End [] ∷ []) (append-nil (upto period things)));
       limits = record { low = h.0.low; high = h.0.high; things = h.0.things_fit; few_things = h.0.few };
     } in
     subst (λ w. Held (make Ended o period things) [] w) same here
 
-held_more : (k : ℕ) (d : SoFar) (r : Row) (rs : List Row) (v : Values) (o : Option Cause) → cause_of d r ≡ o → hole_count (form r.kind) ≡ length r.numbers → SoundIn d.stage d
+held_more : (k : ℕ) (d : SoFar) (r : Row) (rs : List Row) (v : Values) (o : Option Cause) → row_cause d r ≡ o → hole_count (row_form r.kind) ≡ length r.numbers → SoundIn d.stage d
     → ((e : SoFar) → SoundIn e.stage e → run plans (k + 1) e rs ≡ answer v → Held e rs v)
     → goes_on k o (with_row d r.kind r.numbers) (λ e. run plans (k + 1) e rs) ≡ answer v → Held d (r ∷ rs) v
 held_more k d r rs v (Some c) bad counted h later e = absurd cc
@@ -324,4 +324,4 @@ held_more k d r rs v None good counted h later e =
 pub held : (rs : List Row) (k : ℕ) (d : SoFar) (v : Values) → AllByRecursion IsCounted rs → SoundIn d.stage d → run plans k d rs ≡ answer v → Held d rs v
 unfolding run
 held [] k d v counted h e = held_end d.stage d.open_plan d.period d.things k v h e
-held (r ∷ rs) k d v counted h e = held_more k d r rs v (cause_of d r) refl counted.0 h (λ x s g. held rs (k + 1) x v counted.1 s g) e
+held (r ∷ rs) k d v counted h e = held_more k d r rs v (row_cause d r) refl counted.0 h (λ x s g. held rs (k + 1) x v counted.1 s g) e

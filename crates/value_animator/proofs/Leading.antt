@@ -16,11 +16,11 @@ use Rattle.value_animator.specs.declared.row.Row.{Row}
 use Rattle.value_animator.specs.declared.draft.Stage.TheVariants.{Headed, Body, Ended}
 use Rattle.animator.specs.Plans.{IsKey, IsPlan, rise, rise_from}
 use Rattle.value_animator.specs.Plans.{IsThing, AreValues}
-use Rattle.value_animator.specs.Reading.{SoFar, nothing, with_row, numbers_fit, last_place, may_be_placed}
+use Rattle.value_animator.specs.Reading.{SoFar, empty_so_far, with_row, numbers_fit, last_place, may_be_placed}
 use Rattle.std.specs.List.{AllByRecursion}
 use Rattle.value_animator.specs.Plans.{key_row, thing_rows, rows, values_text}
 use Rattle.value_animator.specs.Reading.{plans}
-use Rattle.value_animator.specs.Reading.{say}
+use Rattle.value_animator.specs.Reading.{say_row}
 use Rattle.line_words.specs.RefusedReading.{read_text, run}
 use Rattle.line_words.proofs.Refusing.{answer}
 use Rattle.line_words.proofs.RefusedLines.{texts_run}
@@ -126,7 +126,7 @@ ways_test p h = le_test (p.delay + p.duration * (p.repeats + 1)) 60000 h.end
     le_test m n le = grind (arith, nat_tests)
 
 start_lead : (period : ℕ) (things : List Thing) (p : Plan) (b : Bool) → p.reverse ≡ b → IsPlan p → length things < 16
-    → IsGood (between period things) (say (if b then kind.Reverse else kind.Restart) (way_list p))
+    → IsGood (between period things) (say_row (if b then kind.Reverse else kind.Restart) (way_list p))
     × (with_row (between period things) (if b then kind.Reverse else kind.Restart) (way_list p) ≡ behind period things p [])
 unfolding each_number
 start_lead period things p true e h room = (
@@ -169,27 +169,27 @@ things_lead (t ∷ ts) period done all few =
 
 -- ---- all
 
-head_good : IsGood nothing (say kind.Head [])
+head_good : IsGood empty_so_far (say_row kind.Head [])
 unfolding each_number
 head_good = record { stands = refl; fits = refl; ways = refl; rises = refl; room = refl }
 
-end_good : (period : ℕ) (things : List Thing) → IsGood (between period things) (say kind.End [])
+end_good : (period : ℕ) (things : List Thing) → IsGood (between period things) (say_row kind.End [])
 unfolding each_number
 end_good period things = record { stands = refl; fits = refl; ways = refl; rises = refl; room = refl }
 
 abbrev pub at_end : Values → SoFar
 at_end v = record { period = v.period; things = v.things; open_plan = None; stage = Ended }
 
-pub rows_lead : (v : Values) → AreValues v → Leads nothing (rows v) (at_end v)
+pub rows_lead : (v : Values) → AreValues v → Leads empty_so_far (rows v) (at_end v)
 rows_lead v h =
-    let period_good : IsGood (record { period = 0; things = []; open_plan = None; stage = Headed }) (say kind.Period (v.period ∷ [])) =
+    let period_good : IsGood (record { period = 0; things = []; open_plan = None; stage = Headed }) (say_row kind.Period (v.period ∷ [])) =
     record { stands = refl; fits = period_numbers v.period h.low h.high; ways = refl; rises = refl; room = refl } in
     let things = things_lead v.things v.period [] h.things (omega (arith, h.few_things)) in
-    let to_end : Leads (between v.period v.things) (say kind.End [] ∷ []) (at_end v) = (end_good v.period v.things, refl) in
-    (head_good, (period_good, leads-append (flat_map thing_rows v.things) (say kind.End [] ∷ []) (between v.period []) (between v.period v.things) (at_end v) things to_end))
+    let to_end : Leads (between v.period v.things) (say_row kind.End [] ∷ []) (at_end v) = (end_good v.period v.things, refl) in
+    (head_good, (period_good, leads-append (flat_map thing_rows v.things) (say_row kind.End [] ∷ []) (between v.period []) (between v.period v.things) (at_end v) things to_end))
 
-pub rows_run : (v : Values) → AreValues v → run plans 1 nothing (rows v) ≡ answer v
-rows_run v h = leads_run (rows v) 1 nothing (at_end v) (rows_lead v h) refl
+pub rows_run : (v : Values) → AreValues v → run plans 1 empty_so_far (rows v) ≡ answer v
+rows_run v h = leads_run (rows v) 1 empty_so_far (at_end v) (rows_lead v h) refl
 
 -- ---- the rows are whole
 
@@ -208,7 +208,7 @@ whole-append : (xs ys : List Row) → AllByRecursion IsWhole xs → AllByRecursi
 whole-append [] ys h more = more
 whole-append (x ∷ xs) ys h more = (h.0, whole-append xs ys h.1 more)
 
-plan_whole : (p : Plan) (b : Bool) → IsPlan p → IsWhole (say (if b then kind.Reverse else kind.Restart) (way_list p))
+plan_whole : (p : Plan) (b : Bool) → IsPlan p → IsWhole (say_row (if b then kind.Reverse else kind.Restart) (way_list p))
 plan_whole p true h =
     let a : p.delay ≤ 60000 = h.delay in let b : p.duration ≤ 60000 = h.duration in let c : p.repeats ≤ 99 = h.repeats in
     (refl, (small p.delay (omega arith), (small p.duration (omega arith), (small p.repeats (omega arith), tt))))
@@ -230,8 +230,8 @@ things_whole (t ∷ ts) all =
 rows_whole : (v : Values) → AreValues v → AllByRecursion IsWhole (rows v)
 rows_whole v h =
     let high : v.period ≤ 1000000000 = h.high in
-    ((refl, tt), ((refl, (small v.period high, tt)), whole-append (flat_map thing_rows v.things) (say kind.End [] ∷ []) (things_whole v.things h.things) ((refl, tt), tt)))
+    ((refl, tt), ((refl, (small v.period high, tt)), whole-append (flat_map thing_rows v.things) (say_row kind.End [] ∷ []) (things_whole v.things h.things) ((refl, tt), tt)))
 
 -- the text of values within the limits is read as theirs
 pub texts_are_read : (v : Values) → AreValues v → read_text plans (values_text v) ≡ answer v
-texts_are_read v h = texts_run spelled 1 nothing (rows v) (rows_whole v h) ∙ rows_run v h
+texts_are_read v h = texts_run spelled 1 empty_so_far (rows v) (rows_whole v h) ∙ rows_run v h

@@ -10,26 +10,26 @@ use Rattle.dash_script.specs.Writing.{hole_count}
 use Rattle.dash_script.proofs.Lines.{numbers_counted}
 use Rattle.dash_script.proofs.Forms.{among_said}
 use Rattle.value_animator.specs.declared.row.Row.{Row}
-use Rattle.value_animator.specs.Reading.{form, all_kinds, say, row_of}
+use Rattle.value_animator.specs.Reading.{row_form, all_row_kinds, say_row, row_of}
 use Rattle.value_animator.specs.Plans.{row_text}
 use Rattle.value_animator.specs.Reading.{SoFar, with_row, is_ended_stage}
-use Rattle.value_animator.specs.Reading.{plans, values_of, cause_at_stop}
+use Rattle.value_animator.specs.Reading.{plans, values_of, plan_stop_cause}
 use Rattle.value_animator.proofs.Rows.{IsWhole, row_bytes, row_first, row_again, row_taken}
 use Rattle.value_animator.proofs.Lines.{IsGood, is_good}
 
 -- a row has a number for each hole of its form
 abbrev pub IsCounted : Row → Type 0
-IsCounted r = hole_count (form r.kind) ≡ length r.numbers
+IsCounted r = hole_count (row_form r.kind) ≡ length r.numbers
 
-pub among_counted : (ws : List (List ℕ)) (r : Row) → said_among form say all_kinds ws ≡ Some r → IsCounted r
+pub among_counted : (ws : List (List ℕ)) (r : Row) → said_among row_form say_row all_row_kinds ws ≡ Some r → IsCounted r
 among_counted ws r e =
-    let p = among_said form say all_kinds ws r e in
-    subst (λ (x : Row). hole_count (form x.kind) ≡ length x.numbers) p.2 (numbers_counted (form p.0) ws p.1 p.3)
+    let p = among_said row_form say_row all_row_kinds ws r e in
+    subst (λ (x : Row). hole_count (row_form x.kind) ≡ length x.numbers) p.2 (numbers_counted (row_form p.0) ws p.1 p.3)
 
-fed : (d : SoFar) (rest : List ℕ) → cause_at_stop d rest ≡ None → rest ≡ []
+fed : (d : SoFar) (rest : List ℕ) → plan_stop_cause d rest ≡ None → rest ≡ []
 fed d rest h = by_test (length rest == 0) refl h
   where
-    by_test : (b : Bool) → (length rest == 0) ≡ b → cause_at_stop d rest ≡ None → rest ≡ []
+    by_test : (b : Bool) → (length rest == 0) ≡ b → plan_stop_cause d rest ≡ None → rest ≡ []
     by_test true is h = nil_from_length rest (eqb-true (length rest) 0 is)
     by_test false is h = let wrong = rw is at h in absurd cc
 

@@ -6,21 +6,21 @@ use Rattle.frame_phases.specs.State.{Frames, past}
 use Rattle.value_animator.specs.declared.plan.Values.{Values}
 use Rattle.value_animator.specs.declared.run.ValuesRan.{ValuesRan}
 use Rattle.value_animator.specs.declared.run.ValuesRan.TheVariants as ran_to
-use Rattle.value_animator.specs.Framing.{IsReady}
-use Rattle.value_animator.specs.Run.{frame_time, frames_text}
-use Rattle.value_animator.specs.Run.{IsCount, callback, record_entries, IsRunOf}
+use Rattle.value_animator.specs.Framing.{IsFrameReady}
+use Rattle.value_animator.specs.Run.{nth_frame_time, frames_text}
+use Rattle.value_animator.specs.Run.{IsCount, due_callback, record_entries, IsRunOf}
 
 -- the first callback is posted, and nothing else happened
 pub record IsStarted (s : Frames) (period : ℕ) : Type 0 where
   pub looper : s.looper ≡ 0
   pub interval : s.interval ≡ period
-  pub ready : IsReady s (frame_time period 0)
+  pub ready : IsFrameReady s (nth_frame_time period 0)
   pub posted : posted_count (past s) ≡ 1
-  pub entries : s.entries ≡ Posted (callback 0 0) ∷ []
+  pub entries : s.entries ≡ Posted (due_callback 0 0) ∷ []
   pub sealed : s.sealed ≡ []
 
 -- frames ran until all things had ended, and what they told was written
-pub record HasRun (v : Values) (before after : List ℕ) (s : Frames) : Type 0 where
+pub record FramesHaveRun (v : Values) (before after : List ℕ) (s : Frames) : Type 0 where
   pub count : ℕ
   pub counted : IsCount v count
   pub told : after ≡ before ++ frames_text v count

@@ -10,28 +10,28 @@ use Rattle.value_animator.specs.declared.plan.Thing.TheVariants.{Animator, Count
 use Rattle.value_animator.specs.declared.plan.Values.{Values}
 use Rattle.value_animator.specs.declared.row.RowKind.TheVariants as kind
 use Rattle.value_animator.specs.declared.row.Row.{Row}
-use Rattle.value_animator.specs.Reading.{form, say}
+use Rattle.value_animator.specs.Reading.{row_form, say_row}
 
 -- the line of a key
 abbrev pub key_row : Key → Row
-key_row k = say kind.Key (k.at ∷ k.value ∷ [])
+key_row k = say_row kind.Key (k.at ∷ k.value ∷ [])
 
 -- the first line of an animator
 abbrev pub plan_row : Plan → Row
-plan_row p = say (if p.reverse then kind.Reverse else kind.Restart) (p.delay ∷ p.duration ∷ p.repeats ∷ [])
+plan_row p = say_row (if p.reverse then kind.Reverse else kind.Restart) (p.delay ∷ p.duration ∷ p.repeats ∷ [])
 
 -- the lines of a thing
 abbrev pub thing_rows : Thing → List Row
 thing_rows (Animator p) = plan_row p ∷ map key_row p.keys
-thing_rows (Countdown total interval) = say kind.Countdown (total ∷ interval ∷ []) ∷ []
+thing_rows (Countdown total interval) = say_row kind.Countdown (total ∷ interval ∷ []) ∷ []
 
 -- the lines of values
 abbrev pub rows : Values → List Row
-rows v = say kind.Head [] ∷ say kind.Period (v.period ∷ []) ∷ flat_map thing_rows v.things ++ say kind.End [] ∷ []
+rows v = say_row kind.Head [] ∷ say_row kind.Period (v.period ∷ []) ∷ flat_map thing_rows v.things ++ say_row kind.End [] ∷ []
 
 -- a line: its words with single spaces, and a line feed
 unfoldable pub row_text : Row → List ℕ
-row_text r = join_with_byte 32 (filled (form r.kind) r.numbers) ++ 10 ∷ []
+row_text r = join_with_byte 32 (filled (row_form r.kind) r.numbers) ++ 10 ∷ []
 
 -- the text of values
 abbrev pub values_text : Values → List ℕ

@@ -2,7 +2,7 @@
 ghost use Rattle.std.specs.Prelude.{◌≡◌, ◌≤◌, ◌<◌, ◌^◌, ◌+◌, ◌*◌, OnOk, IsTrue, length, slice_index};
 ghost use Rattle.dash_script.specs.Causes.{each_number};
 ghost use Rattle.value_animator.specs.Drafts.{so_far};
-ghost use Rattle.value_animator.specs.Reading.{cause_at_stop, cause_of, has_room, is_within, may_be_placed, may_stand, numbers_fit, places_rise, plan_of, ways_fit, with_given_key, with_row};
+ghost use Rattle.value_animator.specs.Reading.{plan_stop_cause, row_cause, row_has_room, is_within_limits, may_be_placed, may_stand, numbers_fit, places_rise, keyless_plan, ways_fit, with_given_key, with_row};
 
 use crate::plan::{Thing, Values};
 use crate::row::{Row, RowKind, row_of};
@@ -43,7 +43,7 @@ pub(crate) struct Draft {
 
 /// Whether a number is within the limits of its role.
 fn is_within(role: Role, number: u64) -> bool
-    ensures { result ≡ is_within role number }
+    ensures { result ≡ is_within_limits role number }
 {
     match role {
         Role::Within { low, high } => low <= number && number <= high,
@@ -54,7 +54,7 @@ fn is_within(role: Role, number: u64) -> bool
 /// Whether each number of a line of this form is within its limits.
 fn numbers_fit(form: &[Slot], numbers: &Numbers) -> bool
     requires { length form.now ≤ 9 }
-    ensures { result ≡ each_number is_within 0 form.now numbers.now }
+    ensures { result ≡ each_number is_within_limits 0 form.now numbers.now }
 {
     let mut place = 0;
     for slot in form {
@@ -133,7 +133,7 @@ impl Draft {
     }
 
     fn has_room(&self, row: &Row) -> bool
-        ensures { result ≡ has_room (so_far self.now) row.now.kind row.now.numbers }
+        ensures { result ≡ row_has_room (so_far self.now) row.now.kind row.now.numbers }
     {
         match row.kind {
             RowKind::Countdown => self.things.len() < MOST_THINGS,
@@ -150,9 +150,9 @@ impl Draft {
     }
 
     /// The first cause for which a line may not come next.
-    #[tactic(auto, unfolding(crate::specs::Reading::cause_of))]
+    #[tactic(auto, unfolding(crate::specs::Reading::row_cause))]
     fn cause(&self, row: &Row) -> Option<Cause>
-        ensures { result ≡ cause_of (so_far self.now) row.now }
+        ensures { result ≡ row_cause (so_far self.now) row.now }
     {
         if !self.may_stand(row.kind) {
             return Some(Cause::Form);
@@ -227,7 +227,7 @@ impl Draft {
 
     /// Why the text may not stop here, where these bytes without a line feed are left.
     fn stop(&self, bytes: &[u8]) -> Option<Cause>
-        ensures { result ≡ cause_at_stop (so_far self.now) bytes.now }
+        ensures { result ≡ plan_stop_cause (so_far self.now) bytes.now }
     {
         let is_whole = bytes.is_empty() & (self.stage == Stage::Ended);
         if is_whole {
@@ -292,7 +292,7 @@ impl ByLines for Draft {
 /// An animator without keys.
 fn plan_of(reverse: bool, numbers: &Numbers) -> Plan
     requires { slice_index numbers.now 2 < 2 ^ 32 }
-    ensures { result ≡ plan_of reverse numbers.now }
+    ensures { result ≡ keyless_plan reverse numbers.now }
 {
     Plan {
         delay: numbers.at(0),

@@ -3,8 +3,8 @@ ghost use Rattle.std.specs.Prelude.{◌≡◌, ◌<◌, OnOk, IfOk, Some, string
 ghost use Rattle.std.specs.List.{list_all};
 ghost use Rattle.frame_phases.specs.Frames.{next_phase};
 ghost use Rattle.frame_phases.specs.State.{past};
-ghost use Rattle.value_animator.specs.Framing.{after_frame, begun, CanBegin, IsReady, posted_again, taken_at};
-ghost use Rattle.value_animator.specs.Runners.{is_ended, AreAsked, HaveTold};
+ghost use Rattle.value_animator.specs.Framing.{after_frame, begun, CanBegin, IsFrameReady, posted_again, taken_at};
+ghost use Rattle.value_animator.specs.Runners.{is_ended, AreAsked, RunnersHaveTold};
 
 use crate::runner::{Runner, ask_all, have_ended};
 use frame_phases::{Beginning, FrameState, Took};
@@ -69,8 +69,8 @@ pub(crate) fn run_frame(
     out: &mut String,
     pulse: u64,
 ) -> Result<bool, NoMemory>
-    requires { IsReady frames.old pulse }
-    ensures told { OnOk result (HaveTold things.old pulse (string_bytes out.old) (string_bytes out.new)) }
+    requires { IsFrameReady frames.old pulse }
+    ensures told { OnOk result (RunnersHaveTold things.old pulse (string_bytes out.old) (string_bytes out.new)) }
     ensures asked { OnOk result (AreAsked things.old pulse things.new) }
     ensures ended { IfOk result (λ ended. ended ≡ list_all is_ended things.new) }
     ensures frames { IfOk result (λ ended. frames.new ≡ after_frame frames.old pulse ended) }

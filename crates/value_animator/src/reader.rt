@@ -2,7 +2,7 @@
 ghost use Rattle.line_words.specs.Answers.{Finds, FindsAll, NamesSo, Refuses, RefusesAll};
 ghost use Rattle.line_words.specs.LeastBad.{IsLeastBad};
 ghost use Rattle.value_animator.specs.Plans.{IsWritten};
-ghost use Rattle.value_animator.specs.Reading.{IsRefusal, IsText};
+ghost use Rattle.value_animator.specs.Reading.{IsPlanRefusal, IsPlanText};
 ghost use Rattle.value_animator.specs.declared.refusal.ParsedValues.TheVariants as parsed;
 
 use crate::draft::Draft;
@@ -22,12 +22,12 @@ use std::alloc::Global;
 /// and no `end` (`Missing`), its form (`Form`), a number or the end of all ways is outside its limits (`Range`), a key's place does
 /// not rise from 0 (`Order`), and one thing or key too many (`TooMany`). `NoMemory` where there was none.
 pub fn parse_values(alloc: Global, bytes: &[u8]) -> ParsedValues
-    ensures found { Finds parsed.Ok IsText result bytes.now }
+    ensures found { Finds parsed.Ok IsPlanText result bytes.now }
     ensures written { Finds parsed.Ok IsWritten result bytes.now }
-    ensures only { FindsAll parsed.Ok parsed.NoMemory IsText result bytes.now }
-    ensures refused { Refuses parsed.Bad IsRefusal IsText result bytes.now }
-    ensures refused_so { RefusesAll parsed.Bad parsed.NoMemory IsRefusal result bytes.now }
-    ensures least { NamesSo parsed.Bad (IsLeastBad IsText) result bytes.now }
+    ensures only { FindsAll parsed.Ok parsed.NoMemory IsPlanText result bytes.now }
+    ensures refused { Refuses parsed.Bad IsPlanRefusal IsPlanText result bytes.now }
+    ensures refused_so { RefusesAll parsed.Bad parsed.NoMemory IsPlanRefusal result bytes.now }
+    ensures least { NamesSo parsed.Bad (IsLeastBad IsPlanText) result bytes.now }
 {
     match read_lines::<Draft>(alloc, bytes) {
         Ok(values) => ParsedValues::Ok(values),

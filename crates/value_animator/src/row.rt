@@ -2,7 +2,7 @@
 ghost use Rattle.std.specs.Prelude.{◌≡◌, ◌≤◌, length};
 ghost use Rattle.line_words.specs.Words.{words};
 ghost use Rattle.dash_script.specs.Form.{said_among};
-ghost use Rattle.value_animator.specs.Reading.{all_kinds, form, row_of, say};
+ghost use Rattle.value_animator.specs.Reading.{all_row_kinds, row_form, row_of, say_row};
 
 use dash_script::{Keyword, Numbers, Role, Slot, numbers_in};
 
@@ -70,7 +70,7 @@ const KINDS: [RowKind; 7] = [
 
 /// Every kind of line.
 fn kinds() -> &'static [RowKind]
-    ensures { result.now ≡ all_kinds }
+    ensures { result.now ≡ all_row_kinds }
 {
     &KINDS
 }
@@ -78,7 +78,7 @@ fn kinds() -> &'static [RowKind]
 impl RowKind {
     /// The words of such a line.
     pub(crate) fn form(self) -> &'static [Slot]
-        ensures form { result.now ≡ form self }
+        ensures form { result.now ≡ row_form self }
         ensures short { length result.now ≤ 9 }
     {
         match self {
@@ -107,7 +107,7 @@ impl RowKind {
 
 /// What a line of one of the kinds says.
 fn row_among(kinds: &[RowKind], line: &[u8]) -> Option<Row>
-    ensures { result ≡ said_among form say kinds.now (words line.now) }
+    ensures { result ≡ said_among row_form say_row kinds.now (words line.now) }
 {
     for kind in kinds {
         if let Some(numbers) = numbers_in(kind.form(), line) {

@@ -2,7 +2,7 @@
 ghost use Rattle.std.specs.Prelude.{IfOk, string_bytes};
 ghost use Rattle.value_animator.specs.Plans.{AreValues};
 ghost use Rattle.value_animator.specs.Run.{IsRunOf};
-ghost use Rattle.value_animator.specs.Going.{HasRun, RunsTo};
+ghost use Rattle.value_animator.specs.Going.{FramesHaveRun, RunsTo};
 
 use crate::frames::{ANIMATION, PHASES, run_frame};
 use crate::plan::Values;
@@ -27,7 +27,7 @@ pub enum ValuesRan {
 /// Runs frames until all things have ended, and writes what they tell.
 fn run_frames(alloc: Global, out: &mut String, values: &Values) -> Result<FrameState, NoMemory>
     requires { AreValues values.now }
-    ensures { IfOk result (λ frames. HasRun values.now (string_bytes out.old) (string_bytes out.new) frames) }
+    ensures { IfOk result (λ frames. FramesHaveRun values.now (string_bytes out.old) (string_bytes out.new) frames) }
 {
     let mut things = runners(alloc, values.things.as_slice())?;
     let mut frames = FrameState::new(alloc, 0, values.period, PHASES)?;

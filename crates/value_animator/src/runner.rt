@@ -2,8 +2,8 @@
 ghost use Rattle.std.specs.Prelude.{◌≡◌, ◌++◌, ◌∷◌, [], List, ℕ, OnOk, IfOk, All, map, string_bytes};
 ghost use Rattle.std.specs.List.{flat_map, list_all};
 ghost use Rattle.value_animator.specs.Plans.{IsThing};
-ghost use Rattle.value_animator.specs.Runners.{is_ended, runner_at, telling_lines, telling_words, AreAsked, HaveTold};
-ghost use Rattle.value_animator.specs.Run.{line_text, told};
+ghost use Rattle.value_animator.specs.Runners.{is_ended, runner_at, telling_lines, telling_words, AreAsked, RunnersHaveTold};
+ghost use Rattle.value_animator.specs.Run.{line_text, thing_words};
 
 use crate::plan::Thing;
 use animator::{Animator, Plan, Valued};
@@ -63,7 +63,7 @@ impl Runner {
 
     /// Asks the thing at a frame of this time, unless it has ended.
     pub(crate) fn ask(&mut self, time: u64) -> Option<Telling>
-        ensures told { (thing : Thing) (times : List ℕ) → self.old ≡ runner_at thing times → telling_words result ≡ told thing times time }
+        ensures told { (thing : Thing) (times : List ℕ) → self.old ≡ runner_at thing times → telling_words result ≡ thing_words thing times time }
         ensures after { (thing : Thing) (times : List ℕ) → self.old ≡ runner_at thing times → self.new ≡ runner_at thing (times ++ time ∷ []) }
     {
         match self {
@@ -129,7 +129,7 @@ fn write_telling(
 
 /// Asks all things at a frame of this time, and writes their lines by rising number.
 pub(crate) fn ask_all(out: &mut String, things: &mut [Runner], time: u64) -> Result<(), NoMemory>
-    ensures told { OnOk result (HaveTold things.old time (string_bytes out.old) (string_bytes out.new)) }
+    ensures told { OnOk result (RunnersHaveTold things.old time (string_bytes out.old) (string_bytes out.new)) }
     ensures after { OnOk result (AreAsked things.old time things.new) }
 {
     for place in 0..things.len() {

@@ -5,7 +5,7 @@ use Rattle.std.specs.List.{position_or_len, list_any}
 use Rattle.std.specs.Option.{option_map}
 use Rattle.std.proofs.lemmas.Bool.{cases_Bool, cases_lt, lt-ltb, le-ltb}
 use Rattle.loop_model.specs.declared.item.Item.{Item}
-use Rattle.loop_model.specs.declared.item.Item.TheVariants.{Post as Message, Barrier as Fence}
+use Rattle.loop_model.specs.declared.item.Item.TheVariants.{Post as Message, Barrier as SyncBarrier}
 use Rattle.loop_model.specs.Items.{is_barrier, is_asynchronous}
 use Rattle.loop_model.specs.Listed.{first_index}
 use Rattle.when_queue.specs.First.{IsEligibleAt, IsFirst, place_within}
@@ -44,7 +44,7 @@ not_later p (x ∷ xs) (suc j) y at h = go (p x) refl (not_later p xs j y at h)
 
 no_barrier : (x : Item) → is_asynchronous x ≡ true → is_barrier x ≡ false
 no_barrier (Message n p) h = refl
-no_barrier (Fence t w) h = absurd cc
+no_barrier (SyncBarrier t w) h = absurd cc
 
 -- behind a barrier at the head an eligible message is asynchronous
 behind : (x : Item) (q : List Item) (i : ℕ) → is_barrier x ≡ true → IsEligibleAt (x ∷ q) i → (position_or_len is_asynchronous q < i) × (i ≤ length q)

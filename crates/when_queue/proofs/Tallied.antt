@@ -9,7 +9,7 @@ use Rattle.std.proofs.lemmas.List.Sums.{sum_by-insert, sum_by-cons, count_by-le-
 use mathlib.Core.Logic.{dite}
 use native.Mathlib.Decide.{ℕ_discrete}
 use Rattle.loop_model.specs.declared.item.Item.{Item}
-use Rattle.loop_model.specs.declared.item.Item.TheVariants.{Post as Message, Barrier as Fence}
+use Rattle.loop_model.specs.declared.item.Item.TheVariants.{Post as Message, Barrier as SyncBarrier}
 use Rattle.loop_model.specs.declared.post.Kind.TheVariants.{What, Callback, All as AnyKind}
 use Rattle.loop_model.specs.declared.post.Kind.{Kind}
 use Rattle.loop_model.specs.declared.post.Filter.{Filter}
@@ -46,7 +46,7 @@ not_counted cs k e = (low (nat_lt k (length cs)) (slice_index cs k == 0) e refl,
 
 -- a message that a filter names stands at the place of that filter
 other_what : (h w : ℕ) (o : Option ℕ) (x : Item) → is_just (what_place x) (place_of h w) ≡ false → matches (record { handler = h; kind = What w; obj = o }) x ≡ false
-other_what h w o (Fence t u) e = refl
+other_what h w o (SyncBarrier t u) e = refl
 other_what h w o (Message n p) e = go (p.handler == h) (p.what == w) refl refl
   where
     go : (a b : Bool) → (p.handler == h) ≡ a → (p.what == w) ≡ b → matches (record { handler = h; kind = What w; obj = o }) (Message n p) ≡ false
@@ -58,7 +58,7 @@ other_what h w o (Message n p) e = go (p.handler == h) (p.what == w) refl refl
     go false b i j = rw i refl
 
 other_callback : (h c : ℕ) (o : Option ℕ) (x : Item) → is_just (callback_place x) (place_of h c) ≡ false → matches (record { handler = h; kind = Callback c; obj = o }) x ≡ false
-other_callback h c o (Fence t u) e = refl
+other_callback h c o (SyncBarrier t u) e = refl
 other_callback h c o (Message n p) e = some p.callback refl
   where
     at : (d : ℕ) (a b : Bool) → (p.handler == h) ≡ a → (d == c) ≡ b → p.callback ≡ Some d → matches (record { handler = h; kind = Callback c; obj = o }) (Message n p) ≡ false

@@ -4,7 +4,7 @@ use Rattle.std.specs.Prelude.{slice_index, slice_set}
 use Rattle.std.specs.List.{count_by}
 use Rattle.std.specs.Option.{option_map}
 use Rattle.loop_model.specs.declared.item.Item.{Item}
-use Rattle.loop_model.specs.declared.item.Item.TheVariants.{Post as Message, Barrier as Fence}
+use Rattle.loop_model.specs.declared.item.Item.TheVariants.{Post as Message, Barrier as SyncBarrier}
 use Rattle.loop_model.specs.declared.post.Kind.TheVariants.{What, Callback, All as AnyKind}
 use Rattle.loop_model.specs.declared.post.Kind.{Kind}
 use Rattle.loop_model.specs.declared.post.Filter.{Filter}
@@ -18,11 +18,11 @@ place_of handler kind = (handler % 16) * 16 + kind % 16
 -- the place of a message by its what, and by its callback
 abbrev pub what_place : Item → Option ℕ
 what_place (Message n p) = Some (place_of p.handler p.what)
-what_place (Fence t w) = None
+what_place (SyncBarrier t w) = None
 
 abbrev pub callback_place : Item → Option ℕ
 callback_place (Message n p) = option_map (place_of p.handler) p.callback
-callback_place (Fence t w) = None
+callback_place (SyncBarrier t w) = None
 
 -- the counts with one more, and with one less, at this place
 abbrev pub with_more : Option ℕ → List ℕ → List ℕ

@@ -14,8 +14,8 @@ use Rattle.loop_model.proofs.Sorting.{AllByRecursion-filter, AllByRecursion-appe
 use Rattle.dash_script.specs.declared.script.Block.{Block}
 use Rattle.dash_script.specs.declared.script.Line.{Line}
 use Rattle.dash_script.specs.declared.script.Script.{Script}
-use Rattle.dash_script.specs.Reading.{rise}
-use Rattle.run_model.specs.Planned.{entries_by, Timed, lines_of, labels_on, lines_on, times_on}
+use Rattle.dash_script.specs.Reading.{times_rise}
+use Rattle.run_model.specs.Planned.{entries_by, TimedCommand, lines_of, labels_on, lines_on, times_on}
 use Rattle.run_model.specs.Parts.{lines_in, comes_in_order}
 use Rattle.run_model.specs.Control.{each_behind}
 use Rattle.run_model.specs.Run.{has_called_before, are_in_order}
@@ -73,7 +73,7 @@ one_more e es more =
 -- ---- blocks
 
 -- where times rise, the blocks behind one come later than it
-rising_behind : (past rest : List Block) (b : Block) → IsTrue (rise (past ++ b ∷ rest)) → IsTrue (list_all (λ later. nat_lt b.time later.time) rest)
+rising_behind : (past rest : List Block) (b : Block) → IsTrue (times_rise (past ++ b ∷ rest)) → IsTrue (list_all (λ later. nat_lt b.time later.time) rest)
 rising_behind [] rest b h = (and_parts _ _ h).0
 rising_behind (a ∷ past) rest b h = rising_behind past rest b (and_parts _ _ h).1
 
@@ -86,15 +86,15 @@ not_earlier time (b ∷ bs) h =
     (omega (arith, less), not_earlier time bs parts.1)
 
 -- what holds of a block's time holds of the times of its lines
-all_at : (P : ℕ → Type 0) (time : ℕ) (ls : List Line) → P time → AllByRecursion (λ (t : Timed). P t.time) (map (λ (l : Line). record { time = time; command = l.command }) ls)
+all_at : (P : ℕ → Type 0) (time : ℕ) (ls : List Line) → P time → AllByRecursion (λ (t : TimedCommand). P t.time) (map (λ (l : Line). record { time = time; command = l.command }) ls)
 all_at P time [] h = tt
 all_at P time (l ∷ ls) h = (h, all_at P time ls h)
 
 -- what holds of the blocks' times holds of their lines' times
-lines_hold : (P : ℕ → Type 0) (k : ℕ) (bs : List Block) → AllByRecursion (λ (b : Block). P b.time) bs → AllByRecursion (λ (t : Timed). P t.time) (lines_of k bs)
+lines_hold : (P : ℕ → Type 0) (k : ℕ) (bs : List Block) → AllByRecursion (λ (b : Block). P b.time) bs → AllByRecursion (λ (t : TimedCommand). P t.time) (lines_of k bs)
 lines_hold P k [] h = tt
 lines_hold P k (b ∷ bs) h =
-    AllByRecursion-append (λ (t : Timed). P t.time) (lines_in k b) (lines_of k bs) (all_at P b.time (filter (λ l. l.thread == k) b.lines) h.0) (lines_hold P k bs h.1)
+    AllByRecursion-append (λ (t : TimedCommand). P t.time) (lines_in k b) (lines_of k bs) (all_at P b.time (filter (λ l. l.thread == k) b.lines) h.0) (lines_hold P k bs h.1)
 
 -- the times of the calls on a queue that a thread's lines of these blocks make
 abbrev pub times_in : Script → ℕ → ℕ → List Block → List ℕ
@@ -107,20 +107,20 @@ called_in s q k bs = length (lines_on s (labels_on q (lines_of k s.blocks)) q (l
 module _ (s : Script) (q : ℕ) where
   -- there is a time for each
   times_count : (k : ℕ) (bs : List Block) → length (times_in s q k bs) ≡ called_in s q k bs
-  times_count k bs = length-map (lines_on s (labels_on q (lines_of k s.blocks)) q (lines_of k bs)) (λ (l : Timed). l.time)
+  times_count k bs = length-map (lines_on s (labels_on q (lines_of k s.blocks)) q (lines_of k bs)) (λ (l : TimedCommand). l.time)
 
   -- what holds of the blocks' times holds of the times of the calls
   times_hold : (P : ℕ → Type 0) (k : ℕ) (bs : List Block) → AllByRecursion (λ (b : Block). P b.time) bs → AllByRecursion P (times_in s q k bs)
   times_hold P k bs h =
-      all_mapped P (λ (l : Timed). l.time) (lines_on s (labels_on q (lines_of k s.blocks)) q (lines_of k bs)) (AllByRecursion-filter (λ (t : Timed). P t.time) _ (lines_of k bs) (lines_hold P k bs h))
+      all_mapped P (λ (l : TimedCommand). l.time) (lines_on s (labels_on q (lines_of k s.blocks)) q (lines_of k bs)) (AllByRecursion-filter (λ (t : TimedCommand). P t.time) _ (lines_of k bs) (lines_hold P k bs h))
 
   -- the calls of more blocks come behind
   times_append : (k : ℕ) (bs cs : List Block) → times_in s q k (bs ++ cs) ≡ times_in s q k bs ++ times_in s q k cs
   times_append k bs cs =
       let labels = labels_on q (lines_of k s.blocks) in
-      ap (λ ls. map (λ (l : Timed). l.time) (lines_on s labels q ls)) (flat_map-append (lines_in k) bs cs)
-      ∙ ap (map (λ (l : Timed). l.time)) (lines_on-append s labels q (lines_of k bs) (lines_of k cs))
-      ∙ map-append (λ (l : Timed). l.time) (lines_on s labels q (lines_of k bs)) (lines_on s labels q (lines_of k cs))
+      ap (λ ls. map (λ (l : TimedCommand). l.time) (lines_on s labels q ls)) (flat_map-append (lines_in k) bs cs)
+      ∙ ap (map (λ (l : TimedCommand). l.time)) (lines_on-append s labels q (lines_of k bs) (lines_of k cs))
+      ∙ map-append (λ (l : TimedCommand). l.time) (lines_on s labels q (lines_of k bs)) (lines_on s labels q (lines_of k cs))
 
   -- and are so many more
   called_append : (k : ℕ) (bs cs : List Block) → called_in s q k (bs ++ cs) ≡ called_in s q k bs + called_in s q k cs
@@ -133,7 +133,7 @@ module _ (s : Script) (q : ℕ) where
       omega (arith, whole, long, a, b, c)
 
   -- where a block comes next among the script's, whose times rise
-  module _ (past rest : List Block) (b : Block) (whole : past ++ b ∷ rest ≡ s.blocks) (rising : IsTrue (rise s.blocks)) where
+  module _ (past rest : List Block) (b : Block) (whole : past ++ b ∷ rest ≡ s.blocks) (rising : IsTrue (times_rise s.blocks)) where
     -- the times of a thread's calls are those of the blocks before, of this one, and of those behind
     times_are : (k : ℕ) → times_on s q k ≡ times_in s q k past ++ (times_in s q k (b ∷ []) ++ times_in s q k rest)
     times_are k =
@@ -141,7 +141,7 @@ module _ (s : Script) (q : ℕ) where
 
     -- the blocks behind are not earlier
     later : AllByRecursion (λ (c : Block). b.time ≤ c.time) rest
-    later = not_earlier b.time rest (rising_behind past rest b (subst (λ (bs : List Block). IsTrue (rise bs)) (sym whole) rising))
+    later = not_earlier b.time rest (rising_behind past rest b (subst (λ (bs : List Block). IsTrue (times_rise bs)) (sym whole) rising))
 
     -- a thread that has made its calls of the blocks before has made all those for earlier times
     called_before : (k : ℕ) (es : List Entry) → called_in s q k past ≤ length (entries_by k es) → has_called_before s q b.time es k ≡ true

@@ -10,9 +10,9 @@ use Rattle.dash_script.specs.declared.script.Block.{Block}
 use Rattle.dash_script.specs.declared.script.Script.{Script}
 use Rattle.dash_script.specs.declared.statement.Statement.{Statement}
 use Rattle.dash_script.specs.declared.form.Kind.TheVariants as kind
-use Rattle.dash_script.specs.Text.{lines, lines_before_end, say, first_lines, handler_line, gauge_line, rule_line, block_lines}
+use Rattle.dash_script.specs.Text.{script_lines, lines_before_end, say, opening_lines, handler_statement, gauge_statement, rule_line, block_lines}
 use Rattle.dash_script.specs.Causes.{numbers_pass, is_within, each_number}
-use Rattle.dash_script.specs.Reading.{HasText, rise}
+use Rattle.dash_script.specs.Reading.{HasText, times_rise}
 use Rattle.dash_stage.specs.Stages.{IsPlayable}
 
 between : (low high n : ℕ) → IsTrue ((nat_le low n && nat_le n high) && true) → n ≤ high
@@ -37,34 +37,34 @@ back_passes p xs ys h = (and_parts _ _ (sym (list_all-append p xs ys) ∙ h)).1
 pub few : (s : Script) → HasText s → (s.loopers ≤ 8) × (s.threads ≤ 16) × (1 ≤ s.loopers)
 unfolding lines_before_end each_number
 few s h =
-    let both = second_and_third (numbers_pass (is_within s)) (say (if s.edition == 2 then kind.Edition2 else kind.Edition1) []) (say kind.Loopers (s.loopers ∷ [])) (say kind.Threads (s.threads ∷ [])) (drop 3 (lines s)) h.limits in
+    let both = second_and_third (numbers_pass (is_within s)) (say (if s.edition == 2 then kind.Edition2 else kind.Edition1) []) (say kind.Loopers (s.loopers ∷ [])) (say kind.Threads (s.threads ∷ [])) (drop 3 (script_lines s)) h.limits in
     (between 1 8 s.loopers both.0, between 1 16 s.threads both.1, at_least 1 8 s.loopers both.0)
 
 pub paced : (s : Script) → HasText s → 1000000 ≤ s.period
 unfolding lines_before_end each_number
 paced s h =
     let p = numbers_pass (is_within s) in
-    let handlers = map handler_line (enumerate_from 0 s.handlers) in
-    let gauges = map gauge_line (enumerate_from 0 s.gauges) in
+    let handlers = map handler_statement (enumerate_from 0 s.handlers) in
+    let gauges = map gauge_statement (enumerate_from 0 s.gauges) in
     let vsync = say kind.Vsync (s.period ∷ []) ∷ [] in
     let rules = map rule_line s.rules in
     let blocks = flat_map block_lines s.blocks in
-    let all = front_passes p (first_lines s ++ handlers ++ gauges ++ vsync ++ rules ++ blocks) (say kind.End (s.end ∷ []) ∷ []) h.limits in
-    let ruled = front_passes p (first_lines s ++ handlers ++ gauges ++ vsync ++ rules) blocks all in
-    let timed = front_passes p (first_lines s ++ handlers ++ gauges ++ vsync) rules ruled in
-    at_least 1000000 1000000000 s.period (and_parts _ _ (back_passes p (first_lines s ++ handlers ++ gauges) vsync timed)).0
+    let all = front_passes p (opening_lines s ++ handlers ++ gauges ++ vsync ++ rules ++ blocks) (say kind.End (s.end ∷ []) ∷ []) h.limits in
+    let ruled = front_passes p (opening_lines s ++ handlers ++ gauges ++ vsync ++ rules) blocks all in
+    let timed = front_passes p (opening_lines s ++ handlers ++ gauges ++ vsync) rules ruled in
+    at_least 1000000 1000000000 s.period (and_parts _ _ (back_passes p (opening_lines s ++ handlers ++ gauges) vsync timed)).0
 
 -- no run takes longer than a day
 pub ends_early : (s : Script) → HasText s → s.end ≤ 86400000
 unfolding lines_before_end each_number
 ends_early s h =
     let p = numbers_pass (is_within s) in
-    let handlers = map handler_line (enumerate_from 0 s.handlers) in
-    let gauges = map gauge_line (enumerate_from 0 s.gauges) in
+    let handlers = map handler_statement (enumerate_from 0 s.handlers) in
+    let gauges = map gauge_statement (enumerate_from 0 s.gauges) in
     let vsync = say kind.Vsync (s.period ∷ []) ∷ [] in
     let rules = map rule_line s.rules in
     let blocks = flat_map block_lines s.blocks in
-    between 0 86400000 s.end (and_parts _ _ (back_passes p (first_lines s ++ handlers ++ gauges ++ vsync ++ rules ++ blocks) (say kind.End (s.end ∷ []) ∷ []) h.limits)).0
+    between 0 86400000 s.end (and_parts _ _ (back_passes p (opening_lines s ++ handlers ++ gauges ++ vsync ++ rules ++ blocks) (say kind.End (s.end ∷ []) ∷ []) h.limits)).0
 
 -- so it can be played
 pub playable : (s : Script) → HasText s → IsPlayable s
@@ -82,7 +82,7 @@ before_end s i b h lt is =
     leb-true b.time s.end (subst (λ (z : Block). nat_le z.time s.end ≡ true) (sym is) (AllPass-from_list_all (λ (z : Block). nat_le z.time s.end) s.blocks h.end i b lt))
 
 -- where times rise, each is earlier than one behind it
-rises : (bs : List Block) → IsTrue (rise bs) → (i j : ℕ) (d e : Block) → i < j → j < length bs → (slice_index_or bs i d).time < (slice_index_or bs j e).time
+rises : (bs : List Block) → IsTrue (times_rise bs) → (i j : ℕ) (d e : Block) → i < j → j < length bs → (slice_index_or bs i d).time < (slice_index_or bs j e).time
 rises [] h i j d e less lt = absurd (omega (arith, lt))
 rises (b ∷ bs) h i zero d e less lt = absurd (omega (arith, less))
 rises (b ∷ bs) h zero (suc j) d e less lt =

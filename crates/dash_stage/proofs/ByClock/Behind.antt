@@ -18,7 +18,7 @@ use Rattle.run_model.specs.Control.{are_before_quit}
 use Rattle.run_model.specs.Moments.{Mode}
 use Rattle.dash_hall.specs.declared.hall.Hall.{Hall}
 use Rattle.dash_hall.specs.Growth.{own}
-use Rattle.choreographer.specs.Known.{Known as Pass}
+use Rattle.choreographer.specs.Known.{Pass}
 use Rattle.dash_hall.specs.Hearing.{HasHeard, HaveHeard, AtEach, AreKept, AreKnown, PassesHaveHeard}
 use Rattle.dash_hall.specs.Kits.{ArePostersOf}
 use Rattle.dash_hall.proofs.Clocking.{quits_enter}

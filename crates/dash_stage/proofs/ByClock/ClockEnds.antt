@@ -12,7 +12,7 @@ use Rattle.looper_run.specs.Holding.{Sender}
 use Rattle.run_model.specs.Moments.{Mode, AreOfClockAfter}
 use Rattle.run_model.specs.Parts.{AreOfClock}
 use Rattle.run_model.specs.Planned.{lines_of, entries_by}
-use Rattle.run_model.specs.Loopers.{Looper, first_looper}
+use Rattle.run_model.specs.Loopers.{LooperState, first_looper}
 use Rattle.dash_hall.specs.declared.hall.Hall.{Hall}
 use Rattle.dash_hall.specs.Hearing.{AtEach, HaveHeard}
 use Rattle.dash_hall.specs.Kits.{AreUnseen, IsHall}
@@ -34,13 +34,13 @@ use Rattle.dash_stage.specs.BehindThreads.{CallsBehindThreads}
 use Rattle.dash_stage.proofs.ByClock.Behind.{behind_on, sees_heard, sees_then}
 use Rattle.dash_stage.proofs.ByClock.Looping.{looped_on, all_heard}
 use Rattle.dash_stage.specs.Controllers.{IsControllerIn, IsClosingBy, HasClosedIn}
-use Rattle.dash_stage.specs.Playing.{HaveBegun, HaveComeBy}
+use Rattle.dash_stage.specs.Playing.{HaveBegun, EachStandsBetweenLoops}
 use Rattle.dash_stage.specs.ControlSteps.{HasHaltedMain}
 use Rattle.dash_stage.specs.Opening.{HasOpened}
 use Rattle.dash_stage.specs.RunEnds.{HasRunByClock, HasBegunByClock, IsClosingByClock, HasEndedByClock}
 use Rattle.dash_stage.specs.Sharing.{OfThreads, OfLoopers, OfSenders, ControllerKeeps, StageKeeps, HaveSeenTheSame}
 use Rattle.dash_stage.specs.Stages.{IsStageIn, AreThreads, AreLoopers, HaveRunBy, GoOn, LoopersGoOn}
-use Rattle.dash_stage.specs.Timeliness.{EachTurnsOn, Halts}
+use Rattle.dash_stage.specs.Timeliness.{EachTurnsOn, IsHaltEntry}
 use Rattle.dash_stage.proofs.Controller.ControlKept.{closing_by_kept, closed_kept, nothing_kept}
 use Rattle.dash_stage.proofs.Played.PlayedStage.{heard_come_by}
 use Rattle.dash_stage.proofs.Sharing.StageShares.{run_kept, ended_kept, calls_none, controller_kept, of_senders_then}
@@ -91,7 +91,7 @@ loops_still m s hall ls are k d lt = record { looper = are k d lt; number = refl
 
 -- where a looper stands that has gone on
 came_by : (s : Script) (q k : ℕ) (es : List Entry) (acts : List Act) (o : Option Parts) → IsSomeAnd o (ComesBy s q k es acts)
-    → (did : Looper) × (a : Looper) × (AreAlike did a × IsSomeAnd o (λ parts. StandsBy false s q k es acts parts did a))
+    → (did : LooperState) × (a : LooperState) × (AreAlike did a × IsSomeAnd o (λ parts. StandsBy false s q k es acts parts did a))
 came_by s q k es acts None h = absurd h
 came_by s q k es acts (Some parts) h = (h.did, h.state, (h.alike, h.stands))
 
@@ -135,7 +135,7 @@ module _ (m : Mode) (s : Script) (hall : Hall) where
       (ran.each k d within).clocked (on k d lt) (by k d within)
 
   -- which have played on from where they stood
-  pub loopers_played : (ls ls' : List StageLooper) → HasText s → AreLoopers s hall ls → AtEach (HasLooped m s hall) ls ls' → LoopersGoOn ls' → HaveComeBy s ls → HaveComeBy s ls'
+  pub loopers_played : (ls ls' : List StageLooper) → HasText s → AreLoopers s hall ls → AtEach (HasLooped m s hall) ls ls' → LoopersGoOn ls' → EachStandsBetweenLoops s ls → EachStandsBetweenLoops s ls'
   loopers_played ls ls' text are ran on come k d lt =
       let within : k < length ls = subst (λ (n : ℕ). k < n) ran.long lt in
       let x : StageLooper = slice_index_or ls k d in
@@ -172,7 +172,7 @@ begins_by_clock m s st some opened =
     }
 
 -- the loopers stand at the state before the first act
-pub begins_played : (s : Script) (ls : List StageLooper) → HaveBegun s ls → HaveComeBy s ls
+pub begins_played : (s : Script) (ls : List StageLooper) → HaveBegun s ls → EachStandsBetweenLoops s ls
 begins_played s ls begun k d lt = (first_looper s, first_looper s, comes_free s (slice_index_or ls k d) (first_looper s) (begun k d lt))
 
 -- ---- all hear each other
@@ -207,7 +207,7 @@ module _ (m : Mode) (s : Script) (st st' : Stage) (is' : IsStageIn false s st') 
   clocked_heard = of_senders_then (AreByClock m) (AreByClock m) HaveHeard (heard_clocked m) st st' kept
 
   -- each looper stands where it stood
-  played_heard : IsHall s st.hall → AreLoopers s st.hall st.loopers.items → HaveComeBy s st.loopers.items → HaveComeBy s st'.loopers.items
+  played_heard : IsHall s st.hall → AreLoopers s st.hall st.loopers.items → EachStandsBetweenLoops s st.loopers.items → EachStandsBetweenLoops s st'.loopers.items
   played_heard is_hall are come k d lt =
       let within : k < length st.loopers.items = subst (λ (n : ℕ). k < n) kept.loopers.long lt in
       let was = come k d within in
@@ -241,7 +241,7 @@ module _ (m : Mode) (s : Script) (st st' : Stage) (is' : IsStageIn false s st') 
 
   -- and main was halted
   pub ended_heard : (was : Stage) → IsStageIn false s was → HaveSeenTheSame was → was.threads ≡ st.threads → was.loopers ≡ st.loopers → m.lockstep ≡ false
-      → IsHall s st.hall → AreLoopers s st.hall st.loopers.items → HasRunByClock m s st → EachTurnsOn Halts was.controller st.controller → HasHaltedMain false s st.controller → HasEndedByClock m s st'
+      → IsHall s st.hall → AreLoopers s st.hall st.loopers.items → HasRunByClock m s st → EachTurnsOn IsHaltEntry was.controller st.controller → HasHaltedMain false s st.controller → HasEndedByClock m s st'
   ended_heard was is same threads loopers free is_hall are ran turns halted =
       let now = ran_heard is_hall are ran in
       record {

@@ -16,7 +16,7 @@ use Rattle.queue_state.specs.Queue.{entry_of, entered, moment_at}
 use Rattle.shared_queue.specs.Constants.{Constants}
 use Rattle.shared_queue.specs.Known.{Shared, IsOf, IsTurn}
 use Rattle.looper_run.specs.Holding.{Sender, State}
-use Rattle.run_model.specs.Moments.{Mode, IsMoment}
+use Rattle.run_model.specs.Moments.{Mode, IsMomentOf}
 use Rattle.run_model.specs.ByClock.{in_free_mode}
 use Rattle.run_model.specs.Control.{is_advance, is_halt, is_safe_quit, is_closing, are_controls}
 use Rattle.dash_hall.specs.declared.hall.Hall.{Hall}
@@ -81,9 +81,9 @@ module _ (p p' : Sender) (q : Shared TableId) (of : IsOf p q) (free : q.constant
       subst (λ (l : List Entry). are_controls false false end true l ≡ true) (sym (t.1 ∙ ap (λ (l : List Entry). l ++ t.0 ∷ []) none)) (quit_closes end at t.0 t.3 (omega (arith, late, from)))
 
   -- whose moment is the clock's, or the queue's time
-  pub quits_by_clock : (m : Mode) (now : ℕ) → IsMoment m now → QuitsOf p p' true now → IsByClock m p → IsByClock m p'
+  pub quits_by_clock : (m : Mode) (now : ℕ) → IsMomentOf m now → QuitsOf p p' true now → IsByClock m p → IsByClock m p'
   quits_by_clock m now moment quits =
-      clocked_at m (Quit true) p p' now (in_mode m) (λ time at h. h) (if_free m.lockstep (IsMoment m now) (λ _. moment)) (quits_enter p p' true now quits)
+      clocked_at m (Quit true) p p' now (in_mode m) (λ time at h. h) (if_free m.lockstep (IsMomentOf m now) (λ _. moment)) (quits_enter p p' true now quits)
 
   -- the same of a halt
   module _ (x y : State) (t : IsTurn p p' x y) (now : ℕ) (is : y ≡ entered x p.sender (Halt (moment_at x now)) Halted) where
@@ -98,8 +98,8 @@ module _ (p p' : Sender) (q : Shared TableId) (of : IsOf p q) (free : q.constant
         let from : now ≤ moment_at x now = (its_moment any_mode p p' x y now t (in_mode any_mode) refl).1 in
         subst (λ (l : List Entry). are_controls true false end false l ≡ true) (sym (made ∙ ap (λ (l : List Entry). l ++ e ∷ []) none)) (halt_closes end (moment_at x now) e refl refl (omega (arith, late, from)))
 
-    pub halts_by_clock : (m : Mode) → IsMoment m now → IsByClock m p → IsByClock m p'
-    halts_by_clock m moment = clocked_at m Halt p p' now (in_mode m) (λ time at h. h) (if_free m.lockstep (IsMoment m now) (λ _. moment)) (x, y, t, Halted, left)
+    pub halts_by_clock : (m : Mode) → IsMomentOf m now → IsByClock m p → IsByClock m p'
+    halts_by_clock m moment = clocked_at m Halt p p' now (in_mode m) (λ time at h. h) (if_free m.lockstep (IsMomentOf m now) (λ _. moment)) (x, y, t, Halted, left)
 
 -- a controller that called nothing on a queue has only moved its time
 pub nothing_moves : (s : Script) (c : Controller) (q : ℕ) → CallsNothingOn c q → OnlyMoves s c q
@@ -153,7 +153,7 @@ module _ {s : Script} {hall : Hall} {i : ℕ} {c : Controller} (at : CanTurn fal
             quits_late (slice_index_or c.kit.posters.items i d) (slice_index_or c'.kit.posters.items i d) f.0 f.1 f.2 s.end now late (quitting.rest i (omega arith) d (has_poster at)) quits
 
     -- at a moment of the clock
-    pub quits_clocked : (m : Mode) → IsMoment m now → AreByClock m c.kit.posters.items → AreByClock m c'.kit.posters.items
+    pub quits_clocked : (m : Mode) → IsMomentOf m now → AreByClock m c.kit.posters.items → AreByClock m c'.kit.posters.items
     quits_clocked m moment = clocked_more m c.kit.posters.items c'.kit.posters.items i long (λ d. one d (here d)) elsewhere
       where
         one : (d : Sender) → MayQuit (slice_index_or c.kit.posters.items i d) (slice_index_or c'.kit.posters.items i d) now → IsByClock m (slice_index_or c.kit.posters.items i d) → IsByClock m (slice_index_or c'.kit.posters.items i d)
@@ -215,5 +215,5 @@ module _ {s : Script} {hall : Hall} {c : Controller} (at : CanTurn false s hall 
               (closing.others j side d (subst (λ (n : ℕ). j < n) main_same near));
         }
 
-    pub halts_clocked : (m : Mode) → IsMoment m now → AreByClock m c.kit.posters.items → AreByClock m (with_poster c 0 p' pass).kit.posters.items
+    pub halts_clocked : (m : Mode) → IsMomentOf m now → AreByClock m c.kit.posters.items → AreByClock m (with_poster c 0 p' pass).kit.posters.items
     halts_clocked m moment = main_clocked m (halts_by_clock p p' main_free.0 main_free.1 main_free.2 x y t now is m moment)

@@ -14,7 +14,7 @@ use Rattle.dash_hall.specs.Hearing.{AtEach, HaveHeard}
 use Rattle.dash_hall.specs.Kits.{IsHall}
 use Rattle.dash_loopers.specs.declared.looper.StageLooper.{StageLooper}
 use Rattle.dash_loopers.specs.Loopers.{IsLooper, LooperKeeps, is_given_up}
-use Rattle.dash_loopers.specs.Looped.{GoesOnFrom, HasGoneRound, LoopsUpTo, StopsBy, HasLooped}
+use Rattle.dash_loopers.specs.Looped.{GoesOnFrom, HasGoneRound, LoopsUntilStopped, StopsBy, HasLooped}
 use Rattle.dash_loopers.proofs.LooperNext.{stopped_not}
 use Rattle.dash_stage.specs.ByClock.{LoopsFor, LoopsAlone, LoopsToEnd, LoopsOut, LoopSideBySide, HaveLooped}
 use Rattle.dash_stage.specs.Playing.{HaveBegun}
@@ -37,7 +37,7 @@ one_set R (z ∷ []) x y is one r = record { long = refl; each = at }
 
 module _ (m : Mode) (s : Script) where
   -- main's last loop came to the end, where it has neither ended nor given up
-  pub looped_to_end : (a b : StageLooper) → LoopsUpTo m s (Some s.end) a b None → is_ended b.last ≡ false → is_given_up b.last ≡ false → LoopsToEnd m s a b
+  pub looped_to_end : (a b : StageLooper) → LoopsUntilStopped m s (Some s.end) a b None → is_ended b.last ≡ false → is_given_up b.last ≡ false → LoopsToEnd m s a b
   looped_to_end a b l unended going = by l.stops
     where
       by : StopsBy m s (Some s.end) l.between b None → LoopsToEnd m s a b
@@ -47,7 +47,7 @@ module _ (m : Mode) (s : Script) where
       by (inr (how, loops, at_end)) = record { count = l.count; between = l.between; rounds = l.rounds; how = how; loops = loops; at_end = at_end }
 
   -- a looper that looped without an end did so until its queue was over, where it has ended
-  pub looped_out : (look : Option Bool) (a b : StageLooper) → LoopsUpTo m s None a b look → is_ended b.last ≡ true → LoopsOut m s a b
+  pub looped_out : (look : Option Bool) (a b : StageLooper) → LoopsUntilStopped m s None a b look → is_ended b.last ≡ true → LoopsOut m s a b
   looped_out look a b l ended = record { count = l.count; rounds = subst (λ (z : StageLooper). HasGoneRound m s None l.count a z) (sym (same look l.stops)) l.rounds; ended = ended }
     where
       same : (o : Option Bool) → StopsBy m s None l.between b o → b ≡ l.between
@@ -67,7 +67,7 @@ module _ (m : Mode) (s : Script) where
   side_by_side hall (x ∷ []) (x' ∷ z ∷ xs') ys ys' one a b = (let long = a.long in absurd (omega (arith, long)))
   side_by_side hall (x ∷ []) (x' ∷ []) ys ys' one a b = record { main = λ d lt. (a.each 0 d (omega arith)).loops; others = other }
     where
-      other : (k : ℕ) (d : StageLooper) → 0 < k → k < length (x ∷ ys) → (look : Option Bool) × LoopsUpTo m s None (slice_index_or (x ∷ ys) k d) (slice_index_or (x' ∷ ys') k d) look
+      other : (k : ℕ) (d : StageLooper) → 0 < k → k < length (x ∷ ys) → (look : Option Bool) × LoopsUntilStopped m s None (slice_index_or (x ∷ ys) k d) (slice_index_or (x' ∷ ys') k d) look
       other zero d some lt = absurd (omega (arith, some))
       other (suc k) d some lt = (let one = b.each k d (omega (arith, lt)) in (one.0, one.1.loops))
 
@@ -113,7 +113,7 @@ all_heard s hall is_hall ls ls' are kept = record {
   each = λ k d lt. on_heard s hall is_hall (slice_index_or ls k d) (are.1 k d lt).0 (slice_index_or ls' k d) (kept.each k d lt);
 }
 
--- by a clock, unless memory was wanting
+-- by a clock, unless memory ran out
 pub all_grew : (m : Mode) (s : Script) (hall : Hall) (ls ls' : List StageLooper) → AtEach (HasLooped m s hall) ls ls' → LoopersGoOn ls' → GoOnFrom ls ls'
 all_grew m s hall ls ls' ran on = record { long = ran.long; each = λ k d lt. (ran.each k d lt).grew (on k d (subst (λ (n : ℕ). k < n) (sym ran.long) lt)) }
 

@@ -30,7 +30,7 @@ use Rattle.dash_stage.specs.Controllers.{CanTurn, TurnsAlone, calls_on, time_in}
 use Rattle.dash_stage.proofs.Controller.Controlling.{has_poster, after_call, after_turn}
 use Rattle.dash_stage.specs.declared.control.Controller.{Controller}
 use Rattle.dash_hall.specs.Growth.{own, GoesOn, QuitsOf}
-use Rattle.dash_stage.specs.Timeliness.{TurnsOn, EachTurnsOn, MovesNot, IsNone, whole_on}
+use Rattle.dash_stage.specs.Timeliness.{TurnsOn, EachTurnsOn, MovesNot, IsNoEntry, whole_on}
 use Rattle.dash_stage.specs.Playing.{IsStuck, AreStuck}
 use Rattle.dash_stage.proofs.Controller.ControlTurns.{with_poster, found_own, poster_here}
 use Rattle.dash_stage.proofs.Stages.Timely.{ends_halted-snoc}
@@ -40,7 +40,7 @@ pub turns_stay : {P : Entry → Type 0} (p : Sender) → TurnsOn P p p
 turns_stay p = record { found = p.view.seen; begins = prefix_self p.view.seen; made = refl; sender = refl; step = inl refl }
 
 -- the first made no entry, so what the second found goes on from what was seen before both
-pub turns_behind : {P : Entry → Type 0} (a b c : Sender) → TurnsOn IsNone a b → TurnsOn P b c → TurnsOn P a c
+pub turns_behind : {P : Entry → Type 0} (a b c : Sender) → TurnsOn IsNoEntry a b → TurnsOn P b c → TurnsOn P a c
 turns_behind a b c f g =
     let seen : b.view.seen ≡ f.found = elim f.step [ inl same ↦ same | inr one ↦ absurd one.2 ] in
     let begins : IsPrefix a.view.seen g.found = prefix_trans a.view.seen b.view.seen g.found (subst (IsPrefix a.view.seen) (sym seen) f.begins) g.begins in
@@ -58,7 +58,7 @@ turns_behind a b c f g =
     }
 
 -- turns that made no entry moved no time
-pub turns_moving : (a b : Sender) → TurnsOn IsNone a b → TurnsOn MovesNot a b
+pub turns_moving : (a b : Sender) → TurnsOn IsNoEntry a b → TurnsOn MovesNot a b
 turns_moving a b f = record { found = f.found; begins = f.begins; made = f.made; sender = f.sender; step = elim f.step [ inl same ↦ inl same | inr one ↦ absurd one.2 ] }
 
 -- a turn of a poster

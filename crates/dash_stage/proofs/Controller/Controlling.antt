@@ -12,13 +12,13 @@ use Rattle.looper_run.specs.Holding.{Sender, State}
 use Rattle.message_pool.specs.Passes.{Tally}
 use Rattle.dash_hall.specs.Growth.{GoesOn}
 use Rattle.choreographer.specs.declared.kept.Kept.{Kept}
-use Rattle.choreographer.specs.Known.{Shared as Frames, Known as Pass, IsOf as IsFrameOf, IsTurn as IsFrameTurn}
+use Rattle.choreographer.specs.Known.{SharedFrames, Pass, IsPassOf, IsFrameTurn}
 use Rattle.run_model.specs.Planned.{controller}
 use Rattle.dash_hall.specs.declared.hall.Hall.{Hall}
 use Rattle.dash_stage.specs.declared.control.Controller.{Controller}
 use Rattle.dash_hall.specs.Kits.{badge_of, badge_for, frame_badge_of, frame_badge_for, IsHall}
 use Rattle.choreographer.proofs.Handing.{hands_same}
-use Rattle.dash_stage.specs.Controllers.{IsControllerIn, CanTurn, handed_out, parts_in}
+use Rattle.dash_stage.specs.Controllers.{IsControllerIn, CanTurn, parts_handed_out, parts_in}
 use Rattle.dash_stage.proofs.Controller.FrameLists.{handed_same, idle_kept}
 use Rattle.dash_hall.proofs.Badges.{alike_length, queue_count, choreographer_count, poster_is, pass_is, queue_is, posters_kept, passes_kept, turn_badge, gone_badge, frame_turn_badge}
 
@@ -56,7 +56,7 @@ module _ {lockstep : Bool} {s : Script} {hall : Hall} {i : ℕ} {c : Controller}
   own_poster {p} {q} is_p is_q =
       poster_is (controller s) hall.queues.items c.kit.posters.items at.controller.posters i p q has_poster is_p is_q
 
-  pub own_pass : {p : Pass} {f : Frames} → p ≡ slice_index_or c.kit.frames.items i p → f ≡ slice_index_or hall.choreographers.items i f → IsFrameOf p f
+  pub own_pass : {p : Pass} {f : SharedFrames} → p ≡ slice_index_or c.kit.frames.items i p → f ≡ slice_index_or hall.choreographers.items i f → IsPassOf p f
   own_pass {p} {f} is_p is_f = pass_is (s.threads + 2) hall.choreographers.items c.kit.frames.items at.controller.frames i p f (subst (λ n. i < n) (sym pass_count) at.known) is_p is_f
 
   -- it is the last sender of a queue in lockstep
@@ -72,7 +72,7 @@ module _ {lockstep : Bool} {s : Script} {hall : Hall} {i : ℕ} {c : Controller}
   in_pool {q} is_q = ap (λ (z : Constants TableId). z.home) (queue_is hall.lockstep s hall.pool hall.queues.items at.is_hall.queues i q at.known is_q)
 
   -- a poster that handed nothing out keeps the parts that it handed out
-  parts_kept : (p p' : Sender) → p ≡ slice_index_or c.kit.posters.items i p → p'.view.sealed ≡ p.view.sealed → handed_out (set c.kit.posters.items i p') ≡ parts_in c.sealed.items
+  parts_kept : (p p' : Sender) → p ≡ slice_index_or c.kit.posters.items i p → p'.view.sealed ≡ p.view.sealed → parts_handed_out (set c.kit.posters.items i p') ≡ parts_in c.sealed.items
   parts_kept p p' is_p same = map-set_same (λ (z : Sender). z.view.sealed) c.kit.posters.items i p' p (same ∙ ap (λ (z : Sender). z.view.sealed) is_p) ∙ at.controller.sealed
 
   -- a call of one of its posters, with its pass of the pool, leaves it the controller

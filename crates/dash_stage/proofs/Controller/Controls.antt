@@ -23,7 +23,7 @@ use Rattle.loop_model.specs.Entries.{moment_of, is_next, is_quit_done, is_dispos
 use Rattle.loop_model.specs.Base.{empty_base}
 use Rattle.loop_model.specs.Pick.{pick}
 use Rattle.loop_model.specs.Answers.{Setting, clock, answer, is_over, has_disposed, has_halted, quit_place, accepted_count, post_reply, quit_reply, next_reply}
-use Rattle.loop_model.specs.Legal.{IsLegal, AreNumbered, IsTimely, IsNextOfSender, MayFollow, is_control}
+use Rattle.loop_model.specs.Legal.{IsLegal, AreNumbered, CallFitsTime, IsNextOfSender, MayFollow, is_control}
 use Rattle.loop_model.specs.Listed.{quit_at}
 use Rattle.loop_model.proofs.AfterLaws.{clock-snoc, quit_place-snoc, has_disposed-snoc, has_halted-snoc, disposed_stays}
 use Rattle.loop_model.proofs.Growing.{entry_by_entry}
@@ -34,7 +34,7 @@ use Rattle.loop_model.proofs.WellFormedLaws.{All_recursive, All_indexed}
 use Rattle.dash_script.specs.declared.script.Script.{Script}
 use Rattle.looper_run.specs.Holding.{Sender}
 use Rattle.run_model.specs.Moments.{Mode}
-use Rattle.run_model.specs.Run.{IsRecordOf, IsControlled, setting_of}
+use Rattle.run_model.specs.Run.{IsRecordOf, IsControlled, record_setting}
 use Rattle.run_model.specs.Parts.{all_entries, is_quit_by_others, disposed_count}
 use Rattle.run_model.specs.Control.{is_advance, is_halt, is_quit, is_safe_quit, is_empty, is_closing, are_controls, is_controlled}
 use Rattle.run_model.proofs.RunLaws.{entries_by-append, entries_by-own, entries_by-unchanged}
@@ -135,7 +135,7 @@ halt_is_control (Next now) h = absurd cc
 halt_is_control (Advance now) h = absurd cc
 
 -- a call that is not the controller's comes at the time, or has no moment
-moment_within : (time : ℕ) (call : Call) → is_control call ≡ false → IsTimely true time call → moment_of call ≤ time
+moment_within : (time : ℕ) (call : Call) → is_control call ≡ false → CallFitsTime true time call → moment_of call ≤ time
 moment_within time (Post p) c h = omega arith
 moment_within time (Barrier now) c h = omega (arith, h)
 moment_within time (Unbarrier t) c h = omega arith
@@ -259,7 +259,7 @@ module _ (set : Setting) (n : ℕ) (last : n + 1 ≡ set.senders) where
       (λ es e before legal numbered.
       let base = empty_base set.senders in
       let early = before (IsLegal-front set base es (e ∷ []) legal) (AreNumbered-front set base es (e ∷ []) numbered) in
-      let timely = subst (λ (b : Bool). IsTimely b (clock base es) e.call) lockstep (IsLegal-last set base es e legal).timely in
+      let timely = subst (λ (b : Bool). CallFitsTime b (clock base es) e.call) lockstep (IsLegal-last set base es e legal).timely in
       clock-snoc base es e ∙ elim (cases_Bool (e.sender == n)) [
         | inl own ↦ ap (λ t. max t (moment_of e.call)) early ∙ sym (time_in-snoc (entries_by n es) e) ∙ ap time_in (sym (entries_by-own n es e own))
         | inr other ↦
@@ -434,7 +434,7 @@ module _ (m : Mode) (s : Script) (r : QueueRecord) (is : IsRecordOf m all_entrie
       let side : r.main ≡ false = is.main ∙ ne_eqb r.looper 0 (λ e. absurd (omega (arith, other, e))) in
       subst (λ b. is_controlled b r.lockstep (controller s) s.end (history_of r) ≡ true) (sym side)
       (subst (λ b. is_controlled false b (controller s) s.end (history_of r) ≡ true) (sym is.lockstep)
-      (side_is_controlled m.lockstep (setting_of r) (controller s) s.end seen (history_of r) side is.legal begins (subst (λ n. is_over (empty_base n) seen ≡ true) (sym is.senders) over) calls))
+      (side_is_controlled m.lockstep (record_setting r) (controller s) s.end seen (history_of r) side is.legal begins (subst (λ n. is_over (empty_base n) seen ≡ true) (sym is.senders) over) calls))
 
 module _ (s : Script) (hall : Hall) (kits : List Kit) (records : List QueueRecord) (h : IsHall s hall) (are : AreKitsOf s hall kits) (c : Controller) (held : (d : Kit) → slice_index_or kits (controller s) d ≡ c.kit) where
   -- each record has what the controller called on its queue, which is lawful

@@ -10,7 +10,7 @@ use Rattle.frame_phases.specs.declared.entry.FrameRecord.{FrameRecord}
 use Rattle.frame_phases.specs.Frames.{lawful}
 use Rattle.frame_phases.specs.Pulses.{are_stamped}
 use Rattle.dash_script.specs.declared.script.Script.{Script}
-use Rattle.choreographer.specs.Known.{Shared as Frames, Known as Pass}
+use Rattle.choreographer.specs.Known.{SharedFrames, Pass}
 use Rattle.choreographer.specs.declared.view.Constants.{Constants}
 use Rattle.choreographer.specs.Ends.{HasHandedOut, AreHandedOut, IsWhole, entries_in}
 use Rattle.run_model.specs.Run.{IsFrameRun}
@@ -39,7 +39,7 @@ other_parts (x ∷ ps) [] h some_pass = absurd h
 other_parts (x ∷ ps) (y ∷ lists) h some_pass = h.1
 
 -- where the kits have their passes of the next choreographer, the last kit has one
-last_has_pass : (s : Script) (looper : ℕ) (c : Frames) (rest : List Frames) (kits : List Kit) → looper < s.loopers → length kits ≡ s.threads + s.loopers + 1 → HaveAllPasses (given_all s looper (c ∷ rest)) kits
+last_has_pass : (s : Script) (looper : ℕ) (c : SharedFrames) (rest : List SharedFrames) (kits : List Kit) → looper < s.loopers → length kits ≡ s.threads + s.loopers + 1 → HaveAllPasses (given_all s looper (c ∷ rest)) kits
     → (k : ℕ) (d : Kit) → k + 1 ≡ length kits → 0 < length (get_or kits k d).frames.items
 last_has_pass s looper c rest kits few senders marks k d last =
     let here : k ≡ s.threads + s.loopers = omega (arith, last, senders) in
@@ -50,10 +50,10 @@ last_has_pass s looper c rest kits few senders marks k d last =
     omega (arith, one, more, all, long)
 
 -- so the last of the kits has one where the choreographers from this one on haven't ended
-pub next_given : (s : Script) (looper : ℕ) (c : Frames) (rest next : List Frames) (orig kits : List Kit) (records : List FrameRecord) → next ≡ c ∷ rest → looper < s.loopers
+pub next_given : (s : Script) (looper : ℕ) (c : SharedFrames) (rest next : List SharedFrames) (orig kits : List Kit) (records : List FrameRecord) → next ≡ c ∷ rest → looper < s.loopers
     → length orig ≡ s.threads + s.loopers + 1 → HaveEnded s looper next orig records kits → (k : ℕ) (d : Kit) → k + 1 ≡ length kits → 0 < length (get_or kits k d).frames.items
 next_given s looper c rest next orig kits records is few senders ended =
-    last_has_pass s looper c rest kits few (ended.count ∙ senders) (subst (λ (l : List Frames). HaveAllPasses (given_all s looper l) kits) is ended.marks)
+    last_has_pass s looper c rest kits few (ended.count ∙ senders) (subst (λ (l : List SharedFrames). HaveAllPasses (given_all s looper l) kits) is ended.marks)
 
 module _ (kits : List Kit) (lists : List (Vec (List FrameEntry))) (sealed : AreFramesSealed kits lists) (have : (k : ℕ) (d : Kit) → k + 1 ≡ length kits → 0 < length (get_or kits k d).frames.items) where
   -- there is a list for the next choreographer
@@ -74,7 +74,7 @@ module _ (kits : List Kit) (lists : List (Vec (List FrameEntry))) (sealed : AreF
       (first_parts (get_or kits k d).frames.items lists (sealed k d last) (have k d last) p v)
 
   -- behind that choreographer the others are left
-  pub sealed_rest : (s : Script) (looper : ℕ) (c : Frames) (kits' : List Kit) → looper < s.loopers → length kits ≡ s.threads + s.loopers + 1 → HaveFramesLeft (λ k. length (given_of s looper c k)) kits kits'
+  pub sealed_rest : (s : Script) (looper : ℕ) (c : SharedFrames) (kits' : List Kit) → looper < s.loopers → length kits ≡ s.threads + s.loopers + 1 → HaveFramesLeft (λ k. length (given_of s looper c k)) kits kits'
       → AreFramesSealed kits' (remove lists 0)
   sealed_rest s looper c kits' few senders left k d last =
       let same = left.count in
@@ -85,7 +85,7 @@ module _ (kits : List Kit) (lists : List (Vec (List FrameEntry))) (sealed : AreF
       (other_parts (get_or kits k d).frames.items lists (sealed k d (omega (arith, last, same))) (have k d (omega (arith, last, same))))
 
 -- the last of the passes that were taken handed these parts out
-pub taken_sealed : (s : Script) (looper : ℕ) (c : Frames) (number : ℕ) (orig : List Kit) (passes : List Pass) (kits : List Kit) (parts : List (List FrameEntry)) → length passes ≡ number → number ≡ s.threads + 3
+pub taken_sealed : (s : Script) (looper : ℕ) (c : SharedFrames) (number : ℕ) (orig : List Kit) (passes : List Pass) (kits : List Kit) (parts : List (List FrameEntry)) → length passes ≡ number → number ≡ s.threads + 3
     → AreTaken s looper c number orig passes kits → looper < s.loopers → length orig ≡ s.threads + s.loopers + 1 → HasSealedNextFrames orig parts → AreHandedOut passes (entries_in parts)
 taken_sealed s looper c number orig passes kits parts count all taken few senders next k p last =
     let here : k ≡ s.threads + 2 = omega (arith, last, count, all) in
@@ -95,13 +95,13 @@ taken_sealed s looper c number orig passes kits parts count all taken few sender
     subst (λ (z : Pass). HasHandedOut z (entries_in parts)) (sym is) (next (s.threads + s.loopers) d p (omega (arith, senders)))
 
 -- and the kits have given up the passes that they had of it
-pub taken_kits : (s : Script) (looper : ℕ) (c : Frames) (number : ℕ) (orig : List Kit) (passes : List Pass) (kits : List Kit) (result : Result FrameRecord NoMemory) → number ≡ s.threads + 3
+pub taken_kits : (s : Script) (looper : ℕ) (c : SharedFrames) (number : ℕ) (orig : List Kit) (passes : List Pass) (kits : List Kit) (result : Result FrameRecord NoMemory) → number ≡ s.threads + 3
     → AreTaken s looper c number orig passes kits → OnOk result (HaveFramesLeft (λ k. length (given_of s looper c k)) orig kits)
 taken_kits s looper c number orig passes kits (Ok r) all taken = subst (λ (n : ℕ). HaveFramesLeft (λ k. length (given s looper c k 0 n)) orig kits) all taken.left
 taken_kits s looper c number orig passes kits (Err e) all taken = tt
 
 -- the whole record of a looper's choreographer is one that a run has
-pub whole_run : (s : Script) (looper : ℕ) (c : Frames) (passes : List Pass) (result : Result FrameRecord NoMemory) → c.constants ≡ frame_constants s looper
+pub whole_run : (s : Script) (looper : ℕ) (c : SharedFrames) (passes : List Pass) (result : Result FrameRecord NoMemory) → c.constants ≡ frame_constants s looper
     → IfOk result (λ r. (r.looper ≡ c.constants.looper) × (r.interval ≡ c.constants.interval) × (r.phases ≡ c.constants.phases)) → IfOk result (λ r. IsWhole c passes r.entries)
     → IfOk result (λ r. IsFrameRun s r × (r.looper ≡ looper))
 whole_run s looper c passes (Ok r) is told whole = (

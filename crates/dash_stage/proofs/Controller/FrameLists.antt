@@ -6,7 +6,7 @@ use Rattle.std.proofs.lemmas.List.{get_or-set_same, get_or-set_other, length-set
 use mathlib.Core.Logic.{dite}
 use native.Mathlib.Decide.{ℕ_discrete}
 use Rattle.frame_phases.specs.declared.entry.FrameEntry.{FrameEntry}
-use Rattle.choreographer.specs.Known.{Known as Pass}
+use Rattle.choreographer.specs.Known.{Pass}
 use Rattle.choreographer.specs.Ends.{HasHandedOut, entries_in}
 use Rattle.loop_model.proofs.Prefixes.{prefix_trans}
 use Rattle.dash_hall.specs.Hearing.{PassesHaveHeard}

@@ -8,7 +8,7 @@ use Rattle.choreographer.specs.declared.view.Constants.{Constants as FrameConsta
 use Rattle.loop_model.specs.declared.memory.NoMemory.{NoMemory}
 use Rattle.frame_phases.specs.declared.entry.FrameEntry.{FrameEntry}
 use Rattle.dash_script.specs.declared.script.Script.{Script}
-use Rattle.choreographer.specs.Known.{Shared as Frames, Known as Pass}
+use Rattle.choreographer.specs.Known.{SharedFrames, Pass}
 use Rattle.choreographer.specs.Calls.{SealedBy}
 use Rattle.choreographer.specs.Ends.{HasHandedOut, entries_in}
 use Rattle.choreographer.proofs.Handing.{hands_part}
@@ -75,7 +75,7 @@ module _ {s : Script} {hall : Hall} {i : ℕ} {c : Controller} (at : CanTurn tru
   }
 
 -- the controller's pass of a choreographer is the last one
-pub last_pass : {s : Script} {hall : Hall} {i : ℕ} {c : Controller} → CanTurn true s hall i c → {p : Pass} {f : Frames} → p ≡ slice_index_or c.kit.frames.items i p
+pub last_pass : {s : Script} {hall : Hall} {i : ℕ} {c : Controller} → CanTurn true s hall i c → {p : Pass} {f : SharedFrames} → p ≡ slice_index_or c.kit.frames.items i p
     → f ≡ slice_index_or hall.choreographers.items i f → p.number + 1 ≡ f.constants.passes
 last_pass {s} {hall} {i} {c} at {p} {f} is_p is_f =
     let lt = at.known in
@@ -87,7 +87,7 @@ last_pass {s} {hall} {i} {c} at {p} {f} is_p is_f =
     ∙ (get_or-map (frame_badge_for (s.threads + 2)) hall.choreographers.items i f (frame_badge_of p) (omega (arith, lt, few)) ∙ ap (frame_badge_for (s.threads + 2)) (sym is_f)))) in
     let number : p.number ≡ s.threads + 2 = ap (λ (b : FrameBadge). b.number) mine in
     let passes : f.constants.passes ≡ s.threads + 3 =
-    ap (λ (z : Frames). z.constants.passes) is_f ∙ ap (λ (z : FrameConstants). z.passes) (choreographer_at s hall.choreographers.items at.is_hall.choreographers i f lt) in
+    ap (λ (z : SharedFrames). z.constants.passes) is_f ∙ ap (λ (z : FrameConstants). z.passes) (choreographer_at s hall.choreographers.items at.is_hall.choreographers i f lt) in
     omega (arith, number, passes)
 
 -- the controller has a list of parts for each looper

@@ -14,13 +14,13 @@ use Rattle.dash_hall.proofs.Badges.{posters_kept}
 use Rattle.dash_hall.specs.declared.hall.Hall.{Hall}
 use Rattle.dash_stage.specs.declared.control.Controller.{Controller}
 use Rattle.dash_stage.specs.Controllers.{CanTurn, TurnsAlone, IsController, CallsNone}
-use Rattle.dash_stage.specs.Timeliness.{TurnsOn, IsNone, HandsOut}
+use Rattle.dash_stage.specs.Timeliness.{TurnsOn, IsNoEntry, HandsPartsOut}
 use Rattle.dash_stage.proofs.Controller.Controlling.{has_poster}
 use Rattle.dash_stage.proofs.Controller.ControlTurns.{made_none, calls_none}
 use Rattle.dash_stage.proofs.Controller.ControlWhole.{turns_none, turns_behind, turns_here, turns_elsewhere}
 
 -- one turn that handed these parts out
-pub hands : {parts : List Segment} (p p' : Sender) (x : State) (ps : List Segment) → IsTurnWith parts p p' x x → HandsOut p p' ps (with_parts ps parts)
+pub hands : {parts : List Segment} (p p' : Sender) (x : State) (ps : List Segment) → IsTurnWith parts p p' x x → HandsPartsOut p p' ps (with_parts ps parts)
 hands {parts} p p' x ps t = record {
   table = t.table;
   constants = t.constants;
@@ -30,7 +30,7 @@ hands {parts} p p' x ps t = record {
 }
 
 -- one after the other
-pub hands_then : (a b c : Sender) (ps qs rs : List Segment) → HandsOut a b ps qs → HandsOut b c qs rs → HandsOut a c ps rs
+pub hands_then : (a b c : Sender) (ps qs rs : List Segment) → HandsPartsOut a b ps qs → HandsPartsOut b c qs rs → HandsPartsOut a c ps rs
 hands_then a b c ps qs rs f g = record {
   table = g.table ∙ f.table;
   constants = g.constants ∙ f.constants;
@@ -51,7 +51,7 @@ in_lists {s} {hall} {i} {c} at =
 
 -- the controller whose poster of one queue handed parts out, which it keeps
 module _ {s : Script} {hall : Hall} {i : ℕ} {c : Controller} (at : CanTurn true s hall i c) {p p' : Sender} {v : Vec Segment} (v' : Vec Segment)
-    (is_p : p ≡ slice_index_or c.kit.posters.items i p) (is_v : v ≡ slice_index_or c.sealed.items i v) (out : HandsOut p p' v.items v'.items) where
+    (is_p : p ≡ slice_index_or c.kit.posters.items i p) (is_v : v ≡ slice_index_or c.sealed.items i v) (out : HandsPartsOut p p' v.items v'.items) where
   within : i < length c.kit.posters.items
   within = has_poster at
 
@@ -84,7 +84,7 @@ module _ {s : Script} {hall : Hall} {i : ℕ} {c : Controller} (at : CanTurn tru
   pub hands_none : CallsNone c after_hands
   hands_none = let none = calls_none c i p p' c.kit.pass within is_p out.called in record { long = none.long; calls = none.calls }
 
-  pub hands_here : (d : Sender) → TurnsOn IsNone (slice_index_or c.kit.posters.items i d) (slice_index_or after_hands.kit.posters.items i d)
+  pub hands_here : (d : Sender) → TurnsOn IsNoEntry (slice_index_or c.kit.posters.items i d) (slice_index_or after_hands.kit.posters.items i d)
   hands_here d = turns_here at c.kit.pass is_p out.turns d
 
   pub hands_alone : TurnsAlone true s hall i c after_hands

@@ -15,8 +15,8 @@ use Rattle.run_model.specs.FrameRecords.{as_told}
 use Rattle.run_model.specs.Run.{IsAsPlanned}
 use Rattle.dash_hall.specs.declared.hall.Hall.{Hall}
 use Rattle.dash_hall.specs.declared.kit.Kit.{Kit}
-use Rattle.dash_hall.specs.Hosts.{asks_of}
-use Rattle.choreographer.specs.Known.{Known as Pass}
+use Rattle.dash_hall.specs.Hosts.{pass_asks}
+use Rattle.choreographer.specs.Known.{Pass}
 use Rattle.dash_threads.specs.declared.thread.PostingThread.{PostingThread}
 use Rattle.dash_hall.specs.Kits.{badge_of, badge_for, frame_badge_of, frame_badge_for, IsHall, IsKitOf, AreKitsOf, AreUnusedKits}
 use Rattle.dash_threads.specs.Threads.{IsThread, IsUpTo, HasCalled, AreByClock}
@@ -146,7 +146,7 @@ module _ (s : Script) (hall : Hall) (h : IsHall s hall) (kits : List Kit) (are :
 
   -- each thread's pass asked the looper's choreographer for what the thread's lines ask for, as the mode tells it
   pub threads_asked : (m : Mode) → HaveRunAll m s kits → (q thread : ℕ) (d : Kit) (p : Pass) → q < s.loopers → thread < s.threads
-      → map (as_told m.lockstep) (asks_of (slice_index_or (slice_index_or kits thread d).frames.items q p)) ≡ map (as_told m.lockstep) (lines_ask q (lines_of thread s.blocks))
+      → map (as_told m.lockstep) (pass_asks (slice_index_or (slice_index_or kits thread d).frames.items q p)) ≡ map (as_told m.lockstep) (lines_ask q (lines_of thread s.blocks))
   threads_asked m run q thread d p lt below =
       let count = are.count in
       let in_kits : thread < length kits = omega (arith, below, count) in

@@ -19,14 +19,14 @@ use Rattle.loop_model.specs.Base.{empty_base}
 use Rattle.loop_model.specs.Legal.{IsLegal, AreNumbered}
 use Rattle.loop_model.specs.Answers.{Setting}
 use Rattle.dash_script.specs.declared.script.Script.{Script}
-use Rattle.shared_queue.specs.Known.{Shared, made_by}
+use Rattle.shared_queue.specs.Known.{Shared, own_count}
 use Rattle.shared_queue.specs.Constants.{Constants, made_in}
 use Rattle.shared_queue.specs.Ends.{AreInOrder, HasCalls}
 use Rattle.shared_queue.proofs.Prefixes.{made_in-append}
 use Rattle.looper_run.specs.Holding.{Sender}
 use Rattle.run_model.specs.Moments.{Mode, AreOfClockAfter}
 use Rattle.run_model.specs.Parts.{AreOfClock, all_entries}
-use Rattle.run_model.specs.Run.{IsRecordOf, setting_of}
+use Rattle.run_model.specs.Run.{IsRecordOf, record_setting}
 use Rattle.run_model.proofs.RunLaws.{entries_by-append}
 use Rattle.dash_hall.specs.declared.kit.Kit.{Kit}
 use Rattle.dash_hall.specs.Growth.{own}
@@ -87,7 +87,7 @@ has_next n before posters after d within have gave =
     subst (λ (x : Kit). 0 < length x.posters.items) (sym (gave.still n d (omega arith))) (have n d (omega (arith, within, same)))
 
 -- a sender's entries in a history that begins with what its poster has seen, and has no more of them
-pub own_entries : (p : Sender) (k : ℕ) (entries : List Entry) → p.sender ≡ k → IsPrefix p.view.seen entries → made_in p.sender entries ≡ made_by p → entries_by k entries ≡ own p
+pub own_entries : (p : Sender) (k : ℕ) (entries : List Entry) → p.sender ≡ k → IsPrefix p.view.seen entries → made_in p.sender entries ≡ own_count p → entries_by k entries ≡ own p
 own_entries p k entries is begins made =
     let parts = made_in-append p.sender p.view.seen begins.0 in
     let whole : made_in p.sender (p.view.seen ++ begins.0) ≡ made_in p.sender p.view.seen = ap (made_in p.sender) begins.1 ∙ made in
@@ -145,7 +145,7 @@ numbers_more k (suc n) =
 pub kept_history : (m : Mode) (s : Script) (pool : TableId) (n : ℕ) (c : Constants TableId) (r : QueueRecord) → c ≡ queue_constants m.lockstep s pool n → IsKeptOf c r → AreOfClock m all_entries (history_of r) → IsRecordOf m all_entries s r
 kept_history m s pool n c r is kept clocked =
     let looper : r.looper ≡ n = kept.looper ∙ ap (λ (x : Constants TableId). x.looper) is in
-    let setting : setting_of r ≡ (queue_constants m.lockstep s pool n).setting = kept.setting ∙ ap (λ (x : Constants TableId). x.setting) is in
+    let setting : record_setting r ≡ (queue_constants m.lockstep s pool n).setting = kept.setting ∙ ap (λ (x : Constants TableId). x.setting) is in
     record {
       main = ap (λ (x : Setting). x.main) setting ∙ ap (λ (k : ℕ). k == 0) (sym looper);
       lockstep = ap (λ (x : Setting). x.lockstep) setting;

@@ -12,7 +12,7 @@ use Rattle.atomic_table.specs.Seated.{TableId}
 use Rattle.frame_phases.specs.declared.entry.FrameEntry.{FrameEntry}
 use Rattle.frame_phases.specs.declared.entry.FrameRecord.{FrameRecord}
 use Rattle.dash_script.specs.declared.script.Script.{Script}
-use Rattle.choreographer.specs.Known.{Shared as Frames, Known as Pass, IsOf as IsOfFrames}
+use Rattle.choreographer.specs.Known.{SharedFrames, Pass, IsPassOf}
 use Rattle.choreographer.specs.Ends.{AreInOrder, BeginWithSeen, AreHeard}
 use Rattle.dash_hall.specs.declared.kit.Kit.{Kit}
 use Rattle.dash_hall.specs.Kits.{FrameBadge, frame_badge_of, frame_badge_for, AreChoreographersOf, frame_key, frame_constants}
@@ -25,7 +25,7 @@ use Rattle.dash_hall.proofs.HallSteps.{within_parts, at_parts}
 use Rattle.dash_stage.proofs.Ends.HallEnds.{numbers_more}
 
 -- the passes of the looper's that come before its pass of this place
-given_mine : (s : Script) (looper : ℕ) (c : Frames) (k i : ℕ) → k ≡ s.threads + looper → i < 2 → length (given s looper c k 0 (s.threads + i)) ≡ i
+given_mine : (s : Script) (looper : ℕ) (c : SharedFrames) (k i : ℕ) → k ≡ s.threads + looper → i < 2 → length (given s looper c k 0 (s.threads + i)) ≡ i
 given_mine s looper c k zero is small =
     let none : s.threads + 0 ≡ s.threads = omega arith in
     ap (λ m. length (given s looper c k 0 m)) none ∙ ap length (given_none s looper c k s.threads (omega arith) (omega (arith, is)))
@@ -37,7 +37,7 @@ given_mine s looper c k (suc zero) is small =
 given_mine s looper c k (suc (suc i)) is small = absurd (omega (arith, small))
 
 -- and none comes before the controller's
-given_final : (s : Script) (looper : ℕ) (c : Frames) → looper < s.loopers → length (given s looper c (s.threads + s.loopers) 0 (s.threads + 2)) ≡ 0
+given_final : (s : Script) (looper : ℕ) (c : SharedFrames) → looper < s.loopers → length (given s looper c (s.threads + s.loopers) 0 (s.threads + 2)) ≡ 0
 given_final s looper c few =
     let k : ℕ = s.threads + s.loopers in
     let both : s.threads + 2 ≡ s.threads + 1 + 1 = omega arith in
@@ -50,12 +50,12 @@ given_final s looper c few =
     ap length (ap (given s looper c k 0) both ∙ (given_more s looper c k 0 (s.threads + 1) ∙ (λ i. one i ++ (ap (given_one s looper c k) first ∙ b) i)))
 
 -- the passes with the first numbers were taken from the kits, each from its holder's
-pub record AreTaken (s : Script) (looper : ℕ) (c : Frames) (number : ℕ) (orig : List Kit) (passes : List Pass) (kits : List Kit) : Type 0 where
+pub record AreTaken (s : Script) (looper : ℕ) (c : SharedFrames) (number : ℕ) (orig : List Kit) (passes : List Pass) (kits : List Kit) : Type 0 where
   pub order : AreInOrder c passes
   pub placed : (k : ℕ) (d : Kit) (p : Pass) → k < number → get_or passes k p ≡ get_or (get_or orig (holder_of s looper k) d).frames.items (length (given s looper c (holder_of s looper k) 0 k)) p
   pub left : HaveFramesLeft (λ k. length (given s looper c k 0 number)) orig kits
 
-pub taken_none : (s : Script) (looper : ℕ) (c : Frames) (kits : List Kit) → AreTaken s looper c 0 kits [] kits
+pub taken_none : (s : Script) (looper : ℕ) (c : SharedFrames) (kits : List Kit) → AreTaken s looper c 0 kits [] kits
 taken_none s looper c kits = record {
   order = λ k d lt. absurd (omega (arith, lt));
   placed = λ k d p lt. absurd (omega (arith, lt));
@@ -63,7 +63,7 @@ taken_none s looper c kits = record {
 }
 
 -- the next pass in the kit of its holder
-pub next_frames : (s : Script) (looper : ℕ) (c : Frames) (number : ℕ) (orig : List Kit) (passes : List Pass) (kits : List Kit) (h : ℕ) (d : Kit)
+pub next_frames : (s : Script) (looper : ℕ) (c : SharedFrames) (number : ℕ) (orig : List Kit) (passes : List Pass) (kits : List Kit) (h : ℕ) (d : Kit)
     → number < s.threads + 3 → h ≡ holder_of s looper number → h < length orig → BeginWithPasses s looper c orig → AreTaken s looper c number orig passes kits
     → (more : List FrameBadge) × (map frame_badge_of (get_or kits h d).frames.items ≡ frame_badge_for number c ∷ more)
 next_frames s looper c number orig passes kits h d lt held within begins taken =
@@ -86,7 +86,7 @@ next_frames s looper c number orig passes kits h d lt held within begins taken =
           ∙ (ap (drop (length gone)) whole ∙ drop-append_seam gone (frame_badge_for number c ∷ (later ++ begin.0)))),
     )
 
-pub has_pass : (s : Script) (looper : ℕ) (c : Frames) (number : ℕ) (orig : List Kit) (passes : List Pass) (kits : List Kit) (h : ℕ) (d : Kit)
+pub has_pass : (s : Script) (looper : ℕ) (c : SharedFrames) (number : ℕ) (orig : List Kit) (passes : List Pass) (kits : List Kit) (h : ℕ) (d : Kit)
     → number < s.threads + 3 → h ≡ holder_of s looper number → h < length orig → BeginWithPasses s looper c orig → AreTaken s looper c number orig passes kits
     → 0 < length (get_or kits h d).frames.items
 has_pass s looper c number orig passes kits h d lt held within begins taken =
@@ -96,18 +96,18 @@ has_pass s looper c number orig passes kits h d lt held within begins taken =
     omega (arith, long, long')
 
 -- one pass more was taken
-pub takes_more : (s : Script) (looper : ℕ) (c : Frames) (number : ℕ) (orig : List Kit) (passes passes' : List Pass) (p : Pass) (kits kits' : List Kit) (h : ℕ) (e kit : Kit)
+pub takes_more : (s : Script) (looper : ℕ) (c : SharedFrames) (number : ℕ) (orig : List Kit) (passes passes' : List Pass) (p : Pass) (kits kits' : List Kit) (h : ℕ) (e kit : Kit)
     → number < s.threads + 3 → h ≡ holder_of s looper number → h < length orig → BeginWithPasses s looper c orig → length passes ≡ number
     → passes' ≡ passes ++ p ∷ [] → kits' ≡ set kits h kit → GivesPass (get_or kits h e) p kit
     → AreTaken s looper c number orig passes kits → AreTaken s looper c (number + 1) orig passes' kits'
 takes_more s looper c number orig passes passes' p kits kits' h e kit lt held within begins count more wrote gives taken =
     subst (λ l. AreTaken s looper c (number + 1) orig l kits') (sym more) (subst (λ l. AreTaken s looper c (number + 1) orig (passes ++ p ∷ []) l) (sym wrote) (record {
       order = λ k d below. dite (dec_lt k (length passes))
-          (λ early. subst (λ (x : Pass). IsOfFrames x c × (x.number ≡ k)) (sym (get_or-append passes (p ∷ []) d k early)) (taken.order k d early))
+          (λ early. subst (λ (x : Pass). IsPassOf x c × (x.number ≡ k)) (sym (get_or-append passes (p ∷ []) d k early)) (taken.order k d early))
           (λ late.
           let all = length-append passes (p ∷ []) in
           let last : k ≡ length passes = omega (arith, late, below, all) in
-          subst (λ (x : Pass). IsOfFrames x c × (x.number ≡ k)) (sym (ap (λ j. get_or (passes ++ p ∷ []) j d) last ∙ get_or-append_seam passes p [] d))
+          subst (λ (x : Pass). IsPassOf x c × (x.number ≡ k)) (sym (ap (λ j. get_or (passes ++ p ∷ []) j d) last ∙ get_or-append_seam passes p [] d))
           ((ap (λ (b : FrameBadge). b.table) badge, ap (λ (b : FrameBadge). b.constants) badge), ap (λ (b : FrameBadge). b.number) badge ∙ sym (last ∙ count)));
       placed = λ k d x below. dite (dec_lt k number)
           (λ early. get_or-append passes (p ∷ []) x k (omega (arith, early, count)) ∙ taken.placed k d x early)
@@ -161,7 +161,7 @@ takes_more s looper c number orig passes passes' p kits kits' h e kit lt held wi
         ap length (given_more s looper c k 0 number ∙ ap (λ m. given s looper c k 0 number ++ given_one s looper c k m) zeroth)
         ∙ length-append (given s looper c k 0 number) (given_one s looper c k number)
 
-module _ (s : Script) (looper : ℕ) (c : Frames) (number : ℕ) (orig : List Kit) (passes : List Pass) (kits : List Kit) (entries : List FrameEntry) (count : length passes ≡ number) (all : number ≡ s.threads + 3) (taken : AreTaken s looper c number orig passes kits) where
+module _ (s : Script) (looper : ℕ) (c : SharedFrames) (number : ℕ) (orig : List Kit) (passes : List Pass) (kits : List Kit) (entries : List FrameEntry) (count : length passes ≡ number) (all : number ≡ s.threads + 3) (taken : AreTaken s looper c number orig passes kits) where
   -- where each thread's pass stood, where the looper's two stood, and where the controller's stood
   firsts_taken : (k : ℕ) (d : Kit) (p : Pass) → k < s.threads → get_or passes k p ≡ get_or (get_or orig k d).frames.items 0 p
   firsts_taken k d p lt =
@@ -226,7 +226,7 @@ map_same f g a zero same = refl
 map_same f g a (suc n) same = λ i. same a (omega arith) i ∷ map_same f g (a + 1) n (λ j lt. same j (omega (arith, lt))) i
 
 -- what is known where the choreographers of the first loopers have ended, and these have not
-pub record HaveEnded (s : Script) (looper : ℕ) (rest : List Frames) (orig : List Kit) (records : List FrameRecord) (kits : List Kit) : Type 0 where
+pub record HaveEnded (s : Script) (looper : ℕ) (rest : List SharedFrames) (orig : List Kit) (records : List FrameRecord) (kits : List Kit) : Type 0 where
   pub loopers : map (λ (f : FrameRecord). f.looper) records ≡ range_with_len 0 looper
   pub lawful : AllByRecursion (IsFrameRun s) records
   pub theirs : AreAllTheirs s orig records
@@ -238,7 +238,7 @@ pub record HaveEnded (s : Script) (looper : ℕ) (rest : List Frames) (orig : Li
   pub later : (j : ℕ) (d : Kit) → looper ≤ j → j < s.loopers → (get_or kits (s.threads + j) d).frames.items ≡ (get_or orig (s.threads + j) d).frames.items
   pub pool : (k : ℕ) (d : Kit) → k < length orig → (get_or kits k d).pass.home ≡ (get_or orig k d).pass.home
 
-pub ended_none : (s : Script) (cs : List Frames) (kits : List Kit) → HaveAllPasses (given_all s 0 cs) kits → HaveEnded s 0 cs kits [] kits
+pub ended_none : (s : Script) (cs : List SharedFrames) (kits : List Kit) → HaveAllPasses (given_all s 0 cs) kits → HaveEnded s 0 cs kits [] kits
 ended_none s cs kits marks = record {
   loopers = refl;
   lawful = tt;
@@ -253,10 +253,10 @@ ended_none s cs kits marks = record {
 }
 
 -- the next choreographer's passes come first in each kit
-pub next_passes : (s : Script) (looper : ℕ) (c : Frames) (rest : List Frames) (kits : List Kit) → HaveAllPasses (given_all s looper (c ∷ rest)) kits → BeginWithPasses s looper c kits
+pub next_passes : (s : Script) (looper : ℕ) (c : SharedFrames) (rest : List SharedFrames) (kits : List Kit) → HaveAllPasses (given_all s looper (c ∷ rest)) kits → BeginWithPasses s looper c kits
 next_passes s looper c rest kits marks k d lt = (given_all s (looper + 1) rest k, sym (marks k d lt))
 
-pub next_constants : (s : Script) (cs yielded rest : List Frames) (c : Frames) (n : ℕ) → yielded ++ c ∷ rest ≡ cs → n ≡ length yielded → AreChoreographersOf s cs → (c.constants ≡ frame_constants s n) × (n < s.loopers)
+pub next_constants : (s : Script) (cs yielded rest : List SharedFrames) (c : SharedFrames) (n : ℕ) → yielded ++ c ∷ rest ≡ cs → n ≡ length yielded → AreChoreographersOf s cs → (c.constants ≡ frame_constants s n) × (n < s.loopers)
 next_constants s cs yielded rest c n parts is keys =
     let lt = within_parts yielded rest cs c n parts is in
     let long : length cs ≡ s.loopers = sym (length-map cs frame_key) ∙ (ap length keys ∙ length-map-range_with_len (frame_constants s) 0 s.loopers) in
@@ -268,7 +268,7 @@ next_constants s cs yielded rest c n parts is keys =
     )
 
 -- one choreographer more has ended
-pub ends_more : (s : Script) (looper : ℕ) (c : Frames) (rest : List Frames) (orig kits kits' : List Kit) (records records' : List FrameRecord) (r : FrameRecord)
+pub ends_more : (s : Script) (looper : ℕ) (c : SharedFrames) (rest : List SharedFrames) (orig kits kits' : List Kit) (records records' : List FrameRecord) (r : FrameRecord)
     → length records ≡ looper → looper < s.loopers → s.threads + s.loopers < length orig → IsFrameRun s r → r.looper ≡ looper → AreOfNext s looper kits r.entries → BeginWithOwn (s.threads + looper) kits r.entries → HaveFramesLeft (λ k. length (given_of s looper c k)) kits kits'
     → records' ≡ records ++ r ∷ [] → HaveEnded s looper (c ∷ rest) orig records kits → HaveEnded s (looper + 1) rest orig records' kits'
 ends_more s looper c rest orig kits kits' records records' r long few enough lawful number theirs begins_own left more before = subst (λ l. HaveEnded s (looper + 1) rest orig l kits') (sym more) (record {
@@ -342,7 +342,7 @@ ends_more s looper c rest orig kits kits' records records' r long few enough law
     all_push [] h = (lawful, tt)
     all_push (x ∷ xs) h = (h.0, all_push xs h.1)
 
-pub ended_all : (s : Script) (looper : ℕ) (rest : List Frames) (orig kits : List Kit) (records : List FrameRecord) → looper ≡ s.loopers → HaveEnded s looper rest orig records kits
+pub ended_all : (s : Script) (looper : ℕ) (rest : List SharedFrames) (orig kits : List Kit) (records : List FrameRecord) → looper ≡ s.loopers → HaveEnded s looper rest orig records kits
     → AreFrameRecords s records × AreAllTheirs s orig records × ((pool : TableId) → AreOfPool pool orig → AreOfPool pool kits)
 ended_all s looper rest orig kits records all h = (
   record { loopers = h.loopers ∙ ap (range_with_len 0) all; lawful = h.lawful },

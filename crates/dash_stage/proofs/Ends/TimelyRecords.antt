@@ -15,7 +15,7 @@ use Rattle.looper_run.specs.Holding.{Sender}
 use Rattle.run_model.specs.Moments.{in_lockstep, Mode}
 use Rattle.run_model.specs.Control.{is_called_in_time, are_before_quit, ends_halted, befores, InBlock, are_on_time, AreReached, come_first, AreBlocksFirst}
 use Rattle.run_model.specs.Control.{main_entries, AreBlocksReached}
-use Rattle.run_model.specs.Run.{IsRecordOf, IsTimely, setting_of, main_ends_halted, are_in_order}
+use Rattle.run_model.specs.Run.{IsRecordOf, IsTimely, record_setting, main_ends_halted, are_in_order}
 use Rattle.run_model.specs.Parts.{all_entries, IsBeforeQuit}
 use Rattle.dash_hall.specs.declared.hall.Hall.{Hall}
 use Rattle.dash_hall.specs.declared.kit.Kit.{Kit}
@@ -78,7 +78,7 @@ seen_at ps whole q p d seen lt lt' =
     sym (get_or-map (λ (z : Sender). z.view.seen) ps q p [] lt) ∙ ap (λ l. slice_index_or l q []) seen ∙ get_or-map (λ (z : Sender). z.view.seen) whole q d [] lt'
 
 -- the setting of a looper's record
-pub setting_is : (m : Mode) (s : Script) (q : ℕ) (r : QueueRecord) → IsRecordOf m all_entries s r → r.looper ≡ q → m.lockstep ≡ true → setting_of r ≡ setting_for s q
+pub setting_is : (m : Mode) (s : Script) (q : ℕ) (r : QueueRecord) → IsRecordOf m all_entries s r → r.looper ≡ q → m.lockstep ≡ true → record_setting r ≡ setting_for s q
 setting_is m s q r is number step =
     let main = is.main ∙ ap (λ (l : ℕ). l == 0) number in
     let lockstep = is.lockstep ∙ step in
@@ -161,7 +161,7 @@ module _ (m : Mode) (s : Script) (hall : Hall) (kits : List Kit) (records : List
       let count = are.count in
       let senders = is.senders in
       let begins = (all (controller s) q c.kit d r last lt).1 in
-      is_whole (setting_of mine) (empty_base mine.senders) (whole_on c q d) (history_of mine)
+      is_whole (record_setting mine) (empty_base mine.senders) (whole_on c q d) (history_of mine)
       (subst (λ (z : Kit). IsPrefix (slice_index_or z.posters.items q d).view.seen (history_of mine)) (held c.kit) begins) is.numbered
       (λ k below. made_by k q d r (omega (arith, below, senders, count)) lt)
 
@@ -180,8 +180,8 @@ module _ (m : Mode) (s : Script) (hall : Hall) (kits : List Kit) (records : List
       let mine = slice_index_or records q r in
       let is = history q r lt in
       subst (AreNumbered (setting_for s q) (empty_base (sender_count s))) (is_seen q d r lt)
-      (numbered_by (setting_of mine) (setting_for s q) (empty_base (sender_count s)) (history_of mine) (sym is.senders)
-      (subst (λ (n : ℕ). AreNumbered (setting_of mine) (empty_base n) (history_of mine)) is.senders is.numbered))
+      (numbered_by (record_setting mine) (setting_for s q) (empty_base (sender_count s)) (history_of mine) (sym is.senders)
+      (subst (λ (n : ℕ). AreNumbered (record_setting mine) (empty_base n) (history_of mine)) is.senders is.numbered))
 
   -- in each record the threads' calls come before the controller's quit
   pub before_quit_of_records : ((q : ℕ) (d : Sender) → q < length c.kit.posters.items → are_before_quit s.threads (controller s) (whole_on c q d) ≡ true) → AllByRecursion (IsBeforeQuit s) records

@@ -34,7 +34,7 @@ use Rattle.dash_stage.specs.declared.control.Controller.{Controller}
 use Rattle.dash_stage.specs.declared.stage.Stage.{Stage}
 use Rattle.dash_stage.specs.Controllers.{are_advances, time_in, calls_on}
 use Rattle.dash_stage.specs.Stages.{IsStage}
-use Rattle.dash_stage.specs.Timeliness.{whole_on, AreSound, MovesTo, MovesNot, HaveCome}
+use Rattle.dash_stage.specs.Timeliness.{whole_on, AreSound, MovesTo, MovesNot, HaveReachedTime}
 use Rattle.dash_stage.specs.Playing.{IsInTime}
 use Rattle.dash_stage.specs.Moves.{moves_by, IsMovedTogether, AreMoved, MayBeMovedTo, IsPlanned, IsPulse, IsDue}
 use Rattle.dash_stage.proofs.Controller.Controls.{time_by_controller, main_is_not_over}
@@ -170,7 +170,7 @@ module _ {s : Script} {time : ℕ} {st : Stage} {c : Controller} {st' : Stage} {
   abbrev ps : List Sender
   ps = st.controller.kit.posters.items
 
-  come : HaveCome s time c
+  come : HaveReachedTime s time c
   come = a.come (advanced_sound a sound).0
 
   was_sound : AreSound s st.controller

@@ -7,7 +7,7 @@ use Rattle.std.proofs.lemmas.List.{get_or_default, get_or-set_same}
 use Rattle.frame_phases.specs.Frames.{is_pulse}
 use Rattle.dash_script.specs.declared.script.Script.{Script}
 use Rattle.choreographer.specs.declared.view.Constants.{Constants as FrameConstants}
-use Rattle.choreographer.specs.Known.{Shared as Frames, Known as Pass}
+use Rattle.choreographer.specs.Known.{SharedFrames, Pass}
 use Rattle.choreographer.specs.Calls.{AskedBy}
 use Rattle.run_model.specs.FrameRecords.{millis_up}
 use Rattle.run_model.specs.Control.{IsPulseTime}
@@ -24,11 +24,11 @@ use mathlib.Core.Logic.{dite}
 use native.Mathlib.Decide.{dec_lt}
 
 -- a pulse that a looper's choreographer asks for is one of the script's period, and comes at its stamp, rounded up
-pub asked_comes : {s : Script} {hall : Hall} {i : ℕ} {c : Controller} → CanTurn true s hall i c → {f : Frames} → f ≡ slice_index_or hall.choreographers.items i f → (stamp time t : ℕ) → is_pulse f.constants.interval stamp ≡ true
+pub asked_comes : {s : Script} {hall : Hall} {i : ℕ} {c : Controller} → CanTurn true s hall i c → {f : SharedFrames} → f ≡ slice_index_or hall.choreographers.items i f → (stamp time t : ℕ) → is_pulse f.constants.interval stamp ≡ true
     → time ≡ stamp / 1000000 + min 1 (stamp % 1000000) → Some time ≡ Some t → IsPulseTime s.period t
 asked_comes {s} {hall} {i} {c} at {f} is_f stamp time t pulse rounded is = record {
   stamp = stamp;
-  pulse = (let period : f.constants.interval ≡ s.period = ap (λ (c : Frames). c.constants.interval) is_f ∙ ap (λ (k : FrameConstants). k.interval) (choreographer_at s hall.choreographers.items at.is_hall.choreographers i f at.known) in
+  pulse = (let period : f.constants.interval ≡ s.period = ap (λ (c : SharedFrames). c.constants.interval) is_f ∙ ap (λ (k : FrameConstants). k.interval) (choreographer_at s hall.choreographers.items at.is_hall.choreographers i f at.known) in
       subst (λ (n : ℕ). is_pulse n stamp ≡ true) period pulse);
   rounded = (let same : time ≡ t = cc is in rounded_up stamp time rounded ∙ same);
 }

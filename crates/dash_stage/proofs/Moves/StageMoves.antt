@@ -24,7 +24,7 @@ use Rattle.loop_model.proofs.Prefixes.{prefix_trans}
 use Rattle.dash_script.specs.declared.script.Script.{Script}
 use Rattle.looper_run.specs.Holding.{Sender}
 use Rattle.run_model.specs.Planned.{entries_by, controller, sender_count}
-use Rattle.run_model.specs.Control.{is_advance, is_none_before, is_in_time}
+use Rattle.run_model.specs.Control.{is_advance, is_none_before, is_call_in_time}
 use Rattle.run_model.proofs.RunLaws.{entries_by-append, entries_by-unchanged}
 use Rattle.dash_stage.specs.declared.control.Controller.{Controller}
 use Rattle.dash_stage.specs.declared.stage.Stage.{Stage}
@@ -119,11 +119,11 @@ moved_is_open set m es e now is legal =
 
 -- an Advance past no message is in time
 pub move_in_time : (s : Script) (q now : ℕ) (es : List Entry) → (is_over (empty_base (sender_count s)) es ≡ true) ⊎ HasNoneBefore (sender_count s) now es
-    → (e : Entry) → IsSoundOn s q (es ++ e ∷ []) → MovesTo now e → is_in_time es e.call e.reply ≡ true
+    → (e : Entry) → IsSoundOn s q (es ++ e ∷ []) → MovesTo now e → is_call_in_time es e.call e.reply ≡ true
 move_in_time s q now es due e sound moves =
     let none = none_before (setting_for s q) (sender_count s) es e now moves sound.legal due in
-    let in_time : is_in_time es (Advance now) e.reply ≡ true = and_from _ _ (subst (λ o. is_none_before now o ≡ true) (eligible_same (sender_count s) es) none.0) (ap (λ o. not (is_some o)) (sym (quit_same (sender_count s) es) ∙ none.1)) in
-    ap (λ c. is_in_time es c e.reply) moves ∙ in_time
+    let in_time : is_call_in_time es (Advance now) e.reply ≡ true = and_from _ _ (subst (λ o. is_none_before now o ≡ true) (eligible_same (sender_count s) es) none.0) (ap (λ o. not (is_some o)) (sym (quit_same (sender_count s) es) ∙ none.1)) in
+    ap (λ c. is_call_in_time es c e.reply) moves ∙ in_time
 
 -- a turn leaves what it found, and maybe more
 pub step_on : (P : Entry → Type 0) (n : ℕ) (found left : List Entry) → (left ≡ found) ⊎ ((e : Entry) × (left ≡ found ++ e ∷ []) × P e × (e.sender ≡ n)) → IsPrefix found left

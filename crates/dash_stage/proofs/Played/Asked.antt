@@ -15,16 +15,16 @@ use mathlib.Core.List.{IsPrefix, map-append}
 use Rattle.frame_phases.specs.declared.entry.FrameEntry.{FrameEntry}
 use Rattle.frame_phases.specs.Parting.{dealt_to, AreParted}
 use Rattle.dash_script.specs.declared.script.Script.{Script}
-use Rattle.choreographer.specs.Known.{Known as Pass}
+use Rattle.choreographer.specs.Known.{Pass}
 use Rattle.choreographer.specs.Ends.{AreHeard, own_of}
 use Rattle.run_model.specs.Planned.{lines_of}
-use Rattle.run_model.specs.Loopers.{Looper, asked_then}
+use Rattle.run_model.specs.Loopers.{LooperState, asked_then}
 use Rattle.run_model.specs.FrameRecords.{FrameAsk, asked_in, asks_in, as_told, AreAskedInTurn}
 use Rattle.run_model.specs.Parts.{asks_to_run}
 use Rattle.run_model.specs.AskedSoFar.{lines_ask, HaveAsked, second, asked_so_far}
 use Rattle.run_model.proofs.AskedInTurn.{AreAskedBy, asked_of, then_asks, parted_in_turn, all_asked}
 use Rattle.dash_hall.specs.declared.kit.Kit.{Kit}
-use Rattle.dash_hall.specs.Hosts.{asks_of}
+use Rattle.dash_hall.specs.Hosts.{pass_asks}
 use Rattle.dash_stage.specs.Records.{passes_at}
 
 -- the part of a number behind a map of parts
@@ -106,7 +106,7 @@ no_asks ((n, e) ∷ made) none = by_entry (asked_in e) refl (no_asks made others
 
 -- what was asked of the choreographer of looper q so far, as the controller's pass has heard it: in turn, by the threads for all their lines, and by the looper
 -- for the frames and the posts of this state
-pub record HasAskedInTurn (s : Script) (q : ℕ) (pass : Pass) (a : Looper) : Type 0 where
+pub record HasAskedInTurn (s : Script) (q : ℕ) (pass : Pass) (a : LooperState) : Type 0 where
   pub made : List (ℕ × FrameEntry)
   pub heard : pass.view.heard ≡ made
   pub until : ℕ
@@ -123,7 +123,7 @@ by_two x y P first other none (suc zero) = other
 by_two x y P first other none (suc (suc k)) = none (suc (suc k)) (omega arith)
 
 -- what each asked for
-each_asks : (s : Script) (q : ℕ) (pass : Pass) (a : Looper) (t : HasAskedInTurn s q pass a) → (k : ℕ) → asks_in (dealt_to k t.made) ≡ slice_index_or (asked_of s q a) k []
+each_asks : (s : Script) (q : ℕ) (pass : Pass) (a : LooperState) (t : HasAskedInTurn s q pass a) → (k : ℕ) → asks_in (dealt_to k t.made) ≡ slice_index_or (asked_of s q a) k []
 each_asks s q pass a t k =
     let of_line : ℕ → List FrameAsk = λ n. lines_ask q (lines_of n s.blocks) in
     let lines : List (List FrameAsk) = map of_line (range_with_len 0 s.threads) in
@@ -147,13 +147,13 @@ map_both : {X Y Z : Type 0} (f : X → Y) (g : Y → Z) (xs : List X) → map g 
 map_both f g [] = refl
 map_both f g (x ∷ xs) = ap (λ l. g (f x) ∷ l) (map_both f g xs)
 
-module _ (lockstep : Bool) (s : Script) (q : ℕ) (kits : List Kit) (d : Kit) (p : Pass) (a : Looper) where
+module _ (lockstep : Bool) (s : Script) (q : ℕ) (kits : List Kit) (d : Kit) (p : Pass) (a : LooperState) where
   -- what is told of asks, and of what a pass recorded
   abbrev pub told : List FrameAsk → List FrameAsk
   told asks = map (as_told lockstep) asks
 
   abbrev told_by : Pass → List FrameAsk
-  told_by x = told (asks_of x)
+  told_by x = told (pass_asks x)
 
   told_of_all : (xs : List Pass) → map (map (as_told lockstep)) (map (filter_map asked_in) (map own_of xs)) ≡ map told_by xs
   told_of_all [] = refl
@@ -170,8 +170,8 @@ module _ (lockstep : Bool) (s : Script) (q : ℕ) (kits : List Kit) (d : Kit) (p
   last = slice_index_or (slice_index_or kits (s.threads + s.loopers) d).frames.items q p
 
   -- where the passes asked for what the threads' lines ask for, for the frames that the looper runs and for what it posts, they asked for what the run asks for
-  asked_by_each : ((k : ℕ) → k < s.threads → told (asks_of (first k)) ≡ told (lines_ask q (lines_of k s.blocks)))
-      → told (asks_of (mine 0)) ≡ told (asks_to_run a.frames) → told (asks_of (mine 1)) ≡ told a.posted → last.view.own ≡ []
+  asked_by_each : ((k : ℕ) → k < s.threads → told (pass_asks (first k)) ≡ told (lines_ask q (lines_of k s.blocks)))
+      → told (pass_asks (mine 0)) ≡ told (asks_to_run a.frames) → told (pass_asks (mine 1)) ≡ told a.posted → last.view.own ≡ []
       → map told_by (passes_at s q q kits d p) ≡ map (map (as_told lockstep)) (asked_of s q a) ++ [] ∷ []
   asked_by_each threads ran posted idle =
       let of_line : ℕ → List FrameAsk = λ k. lines_ask q (lines_of k s.blocks) in
@@ -185,8 +185,8 @@ module _ (lockstep : Bool) (s : Script) (q : ℕ) (kits : List Kit) (d : Kit) (p
       ∙ ap (λ l. l ++ [] ∷ []) (sym (map-append (map (as_told lockstep)) (map of_line numbers) (asks_to_run a.frames ∷ a.posted ∷ [])))))
 
   -- and the frame record, whose entries are parted among the passes, was asked for that
-  asked_by : (entries : List FrameEntry) → AreHeard entries (passes_at s q q kits d p) → ((k : ℕ) → k < s.threads → told (asks_of (first k)) ≡ told (lines_ask q (lines_of k s.blocks)))
-      → told (asks_of (mine 0)) ≡ told (asks_to_run a.frames) → told (asks_of (mine 1)) ≡ told a.posted → last.view.own ≡ [] → AreAskedBy lockstep (asks_in entries) (asked_of s q a)
+  asked_by : (entries : List FrameEntry) → AreHeard entries (passes_at s q q kits d p) → ((k : ℕ) → k < s.threads → told (pass_asks (first k)) ≡ told (lines_ask q (lines_of k s.blocks)))
+      → told (pass_asks (mine 0)) ≡ told (asks_to_run a.frames) → told (pass_asks (mine 1)) ≡ told a.posted → last.view.own ≡ [] → AreAskedBy lockstep (asks_in entries) (asked_of s q a)
   asked_by entries heard threads ran posted idle =
       let passes : List Pass = passes_at s q q kits d p in
       let asks = parted_given asked_in entries (map own_of passes) (heard.made, heard.made_are, heard.theirs) in
@@ -199,8 +199,8 @@ module _ (lockstep : Bool) (s : Script) (q : ℕ) (kits : List Kit) (d : Kit) (p
       )
 
   -- what the passes recorded beside each number, as told
-  each_asked : ((k : ℕ) → k < s.threads → told (asks_of (first k)) ≡ told (lines_ask q (lines_of k s.blocks)))
-      → told (asks_of (mine 0)) ≡ told (asks_to_run a.frames) → told (asks_of (mine 1)) ≡ told a.posted → last.view.own ≡ []
+  each_asked : ((k : ℕ) → k < s.threads → told (pass_asks (first k)) ≡ told (lines_ask q (lines_of k s.blocks)))
+      → told (pass_asks (mine 0)) ≡ told (asks_to_run a.frames) → told (pass_asks (mine 1)) ≡ told a.posted → last.view.own ≡ []
       → (k : ℕ) → told (asks_in (slice_index_or (map own_of (passes_at s q q kits d p)) k [])) ≡ slice_index_or (map (map (as_told lockstep)) (asked_of s q a)) k []
   each_asked threads ran posted idle k =
       let passes : List Pass = passes_at s q q kits d p in
@@ -221,7 +221,7 @@ module _ (lockstep : Bool) (s : Script) (q : ℕ) (kits : List Kit) (d : Kit) (p
 
 -- in lockstep a frame record was asked for in turn, where its entries are parted among the passes, which asked for what the run asks for, and what was asked so far
 -- was asked in turn by those who ask, for that
-asked_in_step : (s : Script) (q : ℕ) (kits : List Kit) (d : Kit) (p : Pass) (a : Looper) (entries : List FrameEntry) → AreHeard entries (passes_at s q q kits d p)
+asked_in_step : (s : Script) (q : ℕ) (kits : List Kit) (d : Kit) (p : Pass) (a : LooperState) (entries : List FrameEntry) → AreHeard entries (passes_at s q q kits d p)
     → ((k : ℕ) → asks_in (slice_index_or (map own_of (passes_at s q q kits d p)) k []) ≡ slice_index_or (asked_of s q a) k []) → HasAskedInTurn s q (last true s q kits d p a) a
     → AreAskedInTurn true (asks_in entries) (asked_then s q a)
 asked_in_step s q kits d p a entries h theirs t =
@@ -240,10 +240,10 @@ asked_in_step s q kits d p a entries h theirs t =
     subst (λ (asks : List FrameAsk). AreAskedInTurn true asks (asked_then s q a)) whole (all_asked s q t.until t.made a t.asked t.ran t.posted t.idle)
 
 -- a frame record, whose entries are parted among the passes, was asked for in turn by those who ask
-pub asked_by_all : (lockstep : Bool) (s : Script) (q : ℕ) (kits : List Kit) (d : Kit) (p : Pass) (a : Looper) (entries : List FrameEntry) → AreHeard entries (passes_at s q q kits d p)
-    → ((k : ℕ) → k < s.threads → told lockstep s q kits d p a (asks_of (first lockstep s q kits d p a k)) ≡ told lockstep s q kits d p a (lines_ask q (lines_of k s.blocks)))
-    → told lockstep s q kits d p a (asks_of (mine lockstep s q kits d p a 0)) ≡ told lockstep s q kits d p a (asks_to_run a.frames)
-    → told lockstep s q kits d p a (asks_of (mine lockstep s q kits d p a 1)) ≡ told lockstep s q kits d p a a.posted
+pub asked_by_all : (lockstep : Bool) (s : Script) (q : ℕ) (kits : List Kit) (d : Kit) (p : Pass) (a : LooperState) (entries : List FrameEntry) → AreHeard entries (passes_at s q q kits d p)
+    → ((k : ℕ) → k < s.threads → told lockstep s q kits d p a (pass_asks (first lockstep s q kits d p a k)) ≡ told lockstep s q kits d p a (lines_ask q (lines_of k s.blocks)))
+    → told lockstep s q kits d p a (pass_asks (mine lockstep s q kits d p a 0)) ≡ told lockstep s q kits d p a (asks_to_run a.frames)
+    → told lockstep s q kits d p a (pass_asks (mine lockstep s q kits d p a 1)) ≡ told lockstep s q kits d p a a.posted
     → (last lockstep s q kits d p a).view.own ≡ [] → MatchBool lockstep (HasAskedInTurn s q (last lockstep s q kits d p a) a) (Unit {0}) → AreAskedInTurn lockstep (asks_in entries) (asked_then s q a)
 asked_by_all false s q kits d p a entries h threads ran posted idle t =
     parted_in_turn (asks_in entries) (asked_then s q a) (subst (AreAskedBy false (asks_in entries)) (sym (then_asks s q a)) (asked_by false s q kits d p a entries h threads ran posted idle))

@@ -2,29 +2,29 @@
 use Rattle.std.proofs.Common.{◌≡◌, ◌<◌, ◌∙◌, ℕ, true, List, Option, length, sym, ap, subst, arith, slice_index_or}
 use Rattle.std.specs.Option.{IsSomeAnd}
 use Rattle.frame_phases.specs.declared.entry.FrameEntry.{FrameEntry}
-use Rattle.choreographer.specs.Known.{Known as Pass}
+use Rattle.choreographer.specs.Known.{Pass}
 use Rattle.dash_script.specs.declared.script.Script.{Script}
-use Rattle.run_model.specs.Loopers.{Looper}
+use Rattle.run_model.specs.Loopers.{LooperState}
 use Rattle.run_model.specs.FrameRecords.{asks_in, in_round}
 use Rattle.run_model.specs.Parts.{asks_to_run}
 use Rattle.dash_hall.specs.Hearing.{HaveHeardAllAt}
-use Rattle.dash_hall.specs.Hosts.{asks_of}
+use Rattle.dash_hall.specs.Hosts.{pass_asks}
 use Rattle.dash_hall.proofs.FramePosts.{told_whole}
 use Rattle.dash_loopers.specs.declared.player.Parts.{Parts}
 use Rattle.dash_loopers.specs.declared.looper.StageLooper.{StageLooper}
-use Rattle.dash_loopers.specs.Loopers.{Rest, rest_in}
-use Rattle.dash_loopers.specs.Played.{StandsBy, HasCome}
+use Rattle.dash_loopers.specs.Loopers.{LooperRest, rest_in}
+use Rattle.dash_loopers.specs.Played.{StandsBy, StandsBetweenRounds}
 use Rattle.dash_stage.specs.declared.stage.Stage.{Stage}
 use Rattle.dash_stage.specs.Asking.{AskUpToNow}
-use Rattle.dash_stage.specs.Stages.{IsStage, HaveRun}
+use Rattle.dash_stage.specs.Stages.{IsStage, HaveRunLockstep}
 use Rattle.dash_stage.specs.Timeliness.{AreSound}
 use Rattle.dash_stage.proofs.Ends.HallEnds.{some_of}
 use Rattle.dash_stage.proofs.Played.Asked.{HasAskedInTurn}
 use Rattle.dash_stage.proofs.Played.InTurn.{in_controller, looper_made, idle_made, thread_asked}
 use Rattle.dash_stage.proofs.Sharing.LooperShares.{looper_parts}
 
-module _ (s : Script) (st : Stage) (is : IsStage s st) (run : HaveRun s s.blocks st.threads.items) (sound : AreSound s st.controller) (now : AskUpToNow s s.blocks st) where
-  pub asked_at_end : (k : ℕ) (l : StageLooper) → k < length st.loopers.items → (a : Looper) → HasCome s (slice_index_or st.loopers.items k l) a → (p : Pass)
+module _ (s : Script) (st : Stage) (is : IsStage s st) (run : HaveRunLockstep s s.blocks st.threads.items) (sound : AreSound s st.controller) (now : AskUpToNow s s.blocks st) where
+  pub asked_at_end : (k : ℕ) (l : StageLooper) → k < length st.loopers.items → (a : LooperState) → StandsBetweenRounds s (slice_index_or st.loopers.items k l) a → (p : Pass)
       → HasAskedInTurn s k (slice_index_or st.controller.kit.frames.items k p) a
   asked_at_end k l lt a come p =
       let count = is.loopers.0 in
@@ -34,7 +34,7 @@ module _ (s : Script) (st : Stage) (is : IsStage s st) (run : HaveRun s s.blocks
       let was = now.turn.asked sound k few in
       let all = now.turn.same k few in
       let there = ap rest_in parts.1 in
-      let rest : Rest = record { frames = parts.0.frames; root = parts.0.root; fired = parts.0.fired.items; passed = parts.0.passed; awaits = parts.0.awaits } in
+      let rest : LooperRest = record { frames = parts.0.frames; root = parts.0.root; fired = parts.0.fired.items; passed = parts.0.passed; awaits = parts.0.awaits } in
       let same : all.0 ≡ was.made = sym (all.1.looper l lt rest there).0.1 ∙ (was.looper l lt rest there).0.1 in
       let made = looper_made s st is k few was.made l parts.0 lt (was.looper l lt) parts.1 in
       let stands = subst (λ (o : Option Parts). IsSomeAnd o (λ z. StandsBy true s x.number x.sender x.looper.held.poster.view.seen x.looper.held.journal.acts z a a)) parts.1 come in
@@ -48,7 +48,7 @@ module _ (s : Script) (st : Stage) (is : IsStage s st) (run : HaveRun s s.blocks
             let near : n < length st.threads.items = omega (arith, below, threads) in
             let t = some_of st.threads.items n near in
             thread_asked s st is k few was.made s.blocks run n t near (was.threads n t near);
-        ran = ap asks_in made.0 ∙ (sym (told_whole (asks_of parts.0.frames)) ∙ (stands.ran ∙ told_whole (asks_to_run a.frames)));
+        ran = ap asks_in made.0 ∙ (sym (told_whole (pass_asks parts.0.frames)) ∙ (stands.ran ∙ told_whole (asks_to_run a.frames)));
         posted = ap asks_in made.1 ∙ stands.played.shown.asked;
         idle = idle_made s st is k few was.made (subst (λ (m : List (ℕ × FrameEntry)). HaveHeardAllAt k m st.controller.kit.frames.items) same all.1.controller);
       }

@@ -15,7 +15,7 @@ use Rattle.loop_model.specs.Entries.{moment_of, is_next, is_disposed}
 use Rattle.dash_script.specs.declared.script.Command.{Command}
 use Rattle.dash_script.specs.declared.script.Command.TheVariants as line
 use Rattle.dash_script.specs.declared.script.Script.{Script}
-use Rattle.run_model.specs.Planned.{Ask, Makes, Unbars, plain, call_of, token_in, entries_by, AreFor, Timed, planned, lines_of, labels_on, lines_on, IsPlanned}
+use Rattle.run_model.specs.Planned.{Ask, Makes, Unbars, bare_call, call_of, token_in, entries_by, AreFor, TimedCommand, planned, lines_of, labels_on, lines_on, IsPlanned}
 use Rattle.run_model.specs.Moments.{Mode}
 use Rattle.run_model.specs.Parts.{AreAsPlanned, disposed_count, befores_after}
 use Rattle.run_model.specs.Control.{is_advance, is_halt, is_safe_quit, is_empty, is_closing, are_controls, Before, before, befores, befores_from, NotBefore}
@@ -31,9 +31,9 @@ abbrev may_look : Option Ask → Bool
 may_look None = false
 may_look (Some ask) = asks_look ask
 
-asked_no_look : (tokens : List ℕ) (o : Option Ask) (e : Entry) → option_map (call_of tokens) o ≡ Some (plain e.call) → may_look o ≡ false → is_disposal e ≡ false
+asked_no_look : (tokens : List ℕ) (o : Option Ask) (e : Entry) → option_map (call_of tokens) o ≡ Some (bare_call e.call) → may_look o ≡ false → is_disposal e ≡ false
 asked_no_look tokens None e made none = absurd cc
-asked_no_look tokens (Some ask) e made none = let same : call_of tokens ask ≡ plain e.call = cc in no_look_made tokens ask e (sym same) none
+asked_no_look tokens (Some ask) e made none = let same : call_of tokens ask ≡ bare_call e.call = cc in no_look_made tokens ask e (sym same) none
 
 -- a call on one queue only that is no look
 on_no_look : (t : Bool) (c : Call) → is_next c ≡ false → may_look (if t then Some (Makes c) else None) ≡ false
@@ -69,7 +69,7 @@ planned_no_look s labels q u (line.Event l f m) = refl
 planned_no_look s labels q u (line.Unframe l p i) = refl
 
 -- no entry for a line disposes of a queue
-pub lines_dispose_nothing : (m : Mode) (s : Script) (labels : List ℕ) (q : ℕ) (tokens : List ℕ) (ls : List Timed) (es : List Entry) → AreFor (IsPlanned m s labels q) tokens ls es → NoneDisposes es
+pub lines_dispose_nothing : (m : Mode) (s : Script) (labels : List ℕ) (q : ℕ) (tokens : List ℕ) (ls : List TimedCommand) (es : List Entry) → AreFor (IsPlanned m s labels q) tokens ls es → NoneDisposes es
 lines_dispose_nothing m s labels q tokens [] [] h = tt
 lines_dispose_nothing m s labels q tokens [] (e ∷ es) h = absurd h
 lines_dispose_nothing m s labels q tokens (l ∷ ls) [] h = absurd h
@@ -175,7 +175,7 @@ calls_are_all (e ∷ es) none = let first = none.0 in let rest = calls_are_all e
 
 -- ---- the entry that disposed
 
-next_is : (c : Call) → is_next c ≡ true → plain c ≡ Next (moment_of c)
+next_is : (c : Call) → is_next c ≡ true → bare_call c ≡ Next (moment_of c)
 next_is (Post p) h = absurd cc
 next_is (Barrier now) h = absurd cc
 next_is (Unbarrier t) h = absurd cc

@@ -12,7 +12,7 @@ use native.Mathlib.Decide.{ℕ_discrete, dec_lt}
 use Rattle.frame_phases.specs.declared.entry.FrameEntry.{FrameEntry}
 use Rattle.frame_phases.specs.Parting.{dealt_to}
 use Rattle.choreographer.specs.declared.view.Constants.{Constants as FrameConstants}
-use Rattle.choreographer.specs.Known.{Shared as Frames, Known as Pass}
+use Rattle.choreographer.specs.Known.{SharedFrames, Pass}
 use Rattle.dash_script.specs.declared.script.Block.{Block}
 use Rattle.dash_script.specs.declared.script.Script.{Script}
 use Rattle.run_model.specs.Planned.{lines_of}
@@ -20,7 +20,7 @@ use Rattle.run_model.specs.FrameRecords.{asks_in, in_block, in_round}
 use Rattle.run_model.specs.AskedSoFar.{lines_ask, HaveAsked, asked_so_far}
 use Rattle.run_model.proofs.AskedInTurn.{asked_later, nothing_asked, block_asked}
 use Rattle.dash_hall.specs.Hearing.{AtEach, HaveHeard, HasHeardAll, HaveHeardAllAt, PassHasHeard}
-use Rattle.dash_hall.specs.Hosts.{asks_of}
+use Rattle.dash_hall.specs.Hosts.{pass_asks}
 use Rattle.dash_hall.specs.Kits.{FrameBadge, frame_badge_of, frame_badge_for, IsUnusedKit}
 use Rattle.dash_hall.proofs.Badges.{alike_at, alike_length, choreographer_at, choreographer_count}
 use Rattle.dash_hall.proofs.FramePosts.{told_whole}
@@ -28,13 +28,13 @@ use Rattle.dash_threads.specs.declared.thread.PostingThread.{PostingThread}
 use Rattle.dash_threads.specs.Threads.{ThreadKeeps}
 use Rattle.dash_loopers.specs.declared.player.Parts.{Parts}
 use Rattle.dash_loopers.specs.declared.looper.StageLooper.{StageLooper}
-use Rattle.dash_loopers.specs.Loopers.{ArePartsOf, Rest, rest_in, LooperKeeps, OfItsPasses}
+use Rattle.dash_loopers.specs.Loopers.{ArePartsOf, LooperRest, rest_in, LooperKeeps, OfItsPasses}
 use Rattle.dash_loopers.proofs.LooperPasses.{unheard_all}
 use Rattle.dash_stage.specs.declared.stage.Stage.{Stage}
 use Rattle.dash_stage.specs.Asking.{AllAskedInTurn, AskInTurn, AskUpToNow}
 use Rattle.dash_stage.specs.Playing.{LiesAhead}
 use Rattle.dash_stage.specs.Sharing.{OfPasses, AreUnheard, HaveHeardNothing, HavePassesHeard, HaveHeardTheSame}
-use Rattle.dash_stage.specs.Stages.{IsStage, HaveRun}
+use Rattle.dash_stage.specs.Stages.{IsStage, HaveRunLockstep}
 use Rattle.dash_stage.specs.Timeliness.{AreSound}
 use Rattle.dash_stage.proofs.Ends.HallEnds.{some_of}
 use Rattle.dash_stage.proofs.Sharing.LooperShares.{looper_parts}
@@ -71,7 +71,7 @@ idle_front k xs ys front none =
 -- ---- who made what
 
 module _ (s : Script) (st : Stage) (is : IsStage s st) (q : ℕ) (few : q < s.loopers) where
-  abbrev choreographers : List Frames
+  abbrev choreographers : List SharedFrames
   choreographers = st.hall.choreographers.items
 
   in_choreographers : q < length choreographers
@@ -139,14 +139,14 @@ module _ (s : Script) (st : Stage) (is : IsStage s st) (q : ℕ) (few : q < s.lo
         (λ behind. ap (λ (l : List (ℕ × FrameEntry)). dealt_to k l) (sym h.1) ∙ h.0.numbers key (ap (λ (b : FrameBadge). b.constants) badge) k (omega (arith, passes, le, behind)))
 
     -- a thread that has run its lines of these blocks asked for what they ask for
-    pub thread_asked : (past : List Block) → HaveRun s past st.threads.items → (k : ℕ) (t : PostingThread) → k < length st.threads.items
+    pub thread_asked : (past : List Block) → HaveRunLockstep s past st.threads.items → (k : ℕ) (t : PostingThread) → k < length st.threads.items
         → HaveHeardAllAt q made (slice_index_or st.threads.items k t).kit.frames.items → asks_in (dealt_to k made) ≡ lines_ask q (lines_of k past)
     thread_asked past run k t lt heard =
         let ps = (slice_index_or st.threads.items k t).kit.frames.items in
         let within = in_thread k t lt in
         let p = some_of ps q within in
         ap asks_in (thread_made k t p lt heard)
-        ∙ (sym (told_whole (asks_of (slice_index_or ps q p))) ∙ ((run k t lt).asked q p within ∙ told_whole (lines_ask q (lines_of k past))))
+        ∙ (sym (told_whole (pass_asks (slice_index_or ps q p))) ∙ ((run k t lt).asked q p within ∙ told_whole (lines_ask q (lines_of k past))))
 
 -- ---- from a stage to a later one, in which all passes have heard the same
 
@@ -175,14 +175,14 @@ module _ (s : Script) (st st' : Stage) (is : IsStage s st) (is' : IsStage s st')
     its_parts' : (parts : Parts) × (after.parts ≡ Some parts) × ArePartsOf s st'.hall after.number parts
     its_parts' = looper_parts s st'.hall is'.hall after (is'.loopers.1 q its_looper in_after).0
 
-    abbrev rest_of : Parts → Rest
+    abbrev rest_of : Parts → LooperRest
     rest_of p = record { frames = p.frames; root = p.root; fired = p.fired.items; passed = p.passed; awaits = p.awaits }
 
     heard_on : PassHasHeard its_parts.0.frames its_parts'.0.frames × PassHasHeard its_parts.0.root.pass its_parts'.0.root.pass
     heard_on =
         let more = (loopers.each q its_looper in_before).rest (rest_of its_parts.0) (ap rest_in its_parts.1) in
         let is_rest : more.0 ≡ rest_of its_parts'.0 = same_Some _ _ (sym more.1 ∙ ap rest_in its_parts'.1) in
-        (subst (λ (r : Rest). PassHasHeard its_parts.0.frames r.frames) is_rest more.2.frames, subst (λ (r : Rest). PassHasHeard its_parts.0.root.pass r.root.pass) is_rest more.2.client)
+        (subst (λ (r : LooperRest). PassHasHeard its_parts.0.frames r.frames) is_rest more.2.frames, subst (λ (r : LooperRest). PassHasHeard its_parts.0.root.pass r.root.pass) is_rest more.2.client)
 
     -- what was heard goes on from what was heard before
     front : (made made' : List (ℕ × FrameEntry)) → OfItsPasses (HasHeardAll made) before → OfItsPasses (HasHeardAll made') after → IsPrefix made made'
@@ -239,7 +239,7 @@ module _ (s : Script) (st st' : Stage) (is : IsStage s st) (is' : IsStage s st')
           ∙ (((threads.each k t near).frames.each q p within).same.own ∙ sym (thread_made s st is q few made k t p near (heard k t near)))
 
   -- where the threads ran a block, what its lines ask for was asked in turn
-  pub asks_in_block : (past : List Block) (b : Block) → HaveRun s past st.threads.items → HaveRun s (past ++ b ∷ []) st'.threads.items → AskInTurn s past (in_block b.time) st
+  pub asks_in_block : (past : List Block) (b : Block) → HaveRunLockstep s past st.threads.items → HaveRunLockstep s (past ++ b ∷ []) st'.threads.items → AskInTurn s past (in_block b.time) st
       → AskInTurn s (past ++ b ∷ []) (in_block b.time) st'
   asks_in_block past b run run' h = record {
     same = same';

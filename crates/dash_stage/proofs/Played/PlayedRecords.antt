@@ -24,16 +24,16 @@ use Rattle.frame_phases.specs.Frames.{lawful}
 use Rattle.dash_script.specs.declared.script.Script.{Script}
 use Rattle.dash_script.specs.Causes.{phase_count}
 use Rattle.looper_run.specs.Holding.{Sender}
-use Rattle.choreographer.specs.Known.{Known as Pass}
+use Rattle.choreographer.specs.Known.{Pass}
 use Rattle.run_model.specs.AskedSoFar.{tokens_in}
 use Rattle.run_model.specs.Moments.{Mode, IfLockstep}
 use Rattle.run_model.specs.Control.{NotBefore, Timing, befores, are_on_time, are_controls, is_controlled}
 use Rattle.run_model.specs.Parts.{is_quit_by_others, disposed_count, sent_on}
-use Rattle.run_model.specs.Loopers.{Looper, Sent, first_looper, Lead, closing, IsSent, asked_then, has_frames}
+use Rattle.run_model.specs.Loopers.{LooperState, SentCall, first_looper, ActsLead, closing, IsSent, asked_then, has_frames}
 use Rattle.run_model.specs.FrameRecords.{are_whole, are_run_then, asks_in, AreAskedInTurn}
-use Rattle.run_model.specs.Run.{IsAsPlanned, IsControlled, IsLooperRun, IsFrameRun, EachLooper, setting_of, caused_on}
+use Rattle.run_model.specs.Run.{IsAsPlanned, IsControlled, IsLooperRun, IsFrameRun, EachLooper, record_setting, caused_on}
 use Rattle.run_model.proofs.RunLaws.{AreFor-snoc, sent_on-append, are_on_time-snoc}
-use Rattle.run_model.proofs.Growth.{Lead-entries}
+use Rattle.run_model.proofs.Growth.{ActsLead-entries}
 use Rattle.dash_hall.specs.declared.hall.Hall.{Hall}
 use Rattle.dash_hall.specs.declared.kit.Kit.{Kit}
 use Rattle.dash_hall.specs.Growth.{own}
@@ -66,18 +66,18 @@ use Rattle.dash_stage.proofs.Played.Standing.{HasLeftIn, HasStarted, HasFramed, 
 use Rattle.dash_stage.proofs.Ends.TimelyRecords.{few, in_posters, within, history, number, is_seen, setting_is}
 
 -- the timings of calls
-abbrev timings : List Sent → List Timing
+abbrev timings : List SentCall → List Timing
 timings xs = map (λ x. x.timing) xs
 
 -- one call on its own queue, and on another
-one_here : (k : ℕ) (x : Sent) → x.queue ≡ k → sent_on k (x ∷ []) ≡ x ∷ []
+one_here : (k : ℕ) (x : SentCall) → x.queue ≡ k → sent_on k (x ∷ []) ≡ x ∷ []
 one_here k x is = let here = eq-eqb x.queue k is in rw here refl
 
-one_elsewhere : (k : ℕ) (x : Sent) → x.queue ≢ k → sent_on k (x ∷ []) ≡ []
+one_elsewhere : (k : ℕ) (x : SentCall) → x.queue ≢ k → sent_on k (x ∷ []) ≡ []
 one_elsewhere k x apart = let there = ne_eqb x.queue k apart in rw there refl
 
 -- the look that closes looper k
-abbrev last_look : ℕ → ℕ → Sent
+abbrev last_look : ℕ → ℕ → SentCall
 last_look k at = record { queue = k; ask = Makes (Next at); reply = Some Disposed; timing = NotBefore 0 }
 
 -- on another queue the acts cause no more than the calls so far
@@ -85,18 +85,18 @@ closing_elsewhere : (r k at : ℕ) → r ≢ k → (t : Bool) → sent_on r (if 
 closing_elsewhere r k at apart true = refl
 closing_elsewhere r k at apart false = one_elsewhere r (last_look k at) (λ same. apart (sym same))
 
-caused_elsewhere : (r k at : ℕ) (a : Looper) → r ≢ k → caused_on r a k at ≡ sent_on r a.sent
+caused_elsewhere : (r k at : ℕ) (a : LooperState) → r ≢ k → caused_on r a k at ≡ sent_on r a.sent
 caused_elsewhere r k at a apart =
     sent_on-append r a.sent (closing k at) ∙ (ap (λ l. sent_on r a.sent ++ l) (closing_elsewhere r k at apart (k == 0)) ∙ append-nil (sent_on r a.sent))
 
 -- main is not closed
-caused_main : (k at : ℕ) (a : Looper) → k ≡ 0 → caused_on k a k at ≡ sent_on k a.sent
+caused_main : (k at : ℕ) (a : LooperState) → k ≡ 0 → caused_on k a k at ≡ sent_on k a.sent
 caused_main k at a main =
     let none : closing k at ≡ [] = ap (λ (t : Bool). if t then [] else last_look k at ∷ []) (eq-eqb k 0 main) in
     sent_on-append k a.sent (closing k at) ∙ (ap (λ l. sent_on k a.sent ++ sent_on k l) none ∙ append-nil (sent_on k a.sent))
 
 -- another looper's last call closes it
-caused_side : (k at : ℕ) (a : Looper) → 0 < k → caused_on k a k at ≡ sent_on k a.sent ++ last_look k at ∷ []
+caused_side : (k at : ℕ) (a : LooperState) → 0 < k → caused_on k a k at ≡ sent_on k a.sent ++ last_look k at ∷ []
 caused_side k at a side =
     let one : closing k at ≡ last_look k at ∷ [] = ap (λ (t : Bool). if t then [] else last_look k at ∷ []) (ne_eqb k 0 (λ e. absurd (omega (arith, side, e)))) in
     sent_on-append k a.sent (closing k at) ∙ ap (λ l. sent_on k a.sent ++ l) (ap (sent_on k) one ∙ one_here k (last_look k at) refl)
@@ -112,12 +112,12 @@ in_step_by true P Q f p = f refl p
 in_step_by false P Q f p = tt
 
 -- its calls came at their times: on its own queue all but the looks that disposed of it, and on each other queue all
-record AreTimely (s : Script) (queues : List QueueRecord) (k : ℕ) (a : Looper) : Type 0 where
+record AreTimely (s : Script) (queues : List QueueRecord) (k : ℕ) (a : LooperState) : Type 0 where
   here : (x : QueueRecord) → are_on_time (timings (sent_on k a.sent)) (befores_called (looper_sender s k) (history_of (slice_index_or queues k x))) ≡ true
   elsewhere : (r : ℕ) (x : QueueRecord) → r < length queues → r ≢ k → are_on_time (timings (sent_on r a.sent)) (befores (looper_sender s k) (history_of (slice_index_or queues r x))) ≡ true
 
 -- what is known of one looper, by its place: where it left, what its poster of each queue made, and what stands in the records
-record Known (m : Mode) (s : Script) (queues : List QueueRecord) (k : ℕ) (j : Journal) (f : FrameRecord) (kit : Kit) (a : Looper) : Type 0 where
+record Known (m : Mode) (s : Script) (queues : List QueueRecord) (k : ℕ) (j : Journal) (f : FrameRecord) (kit : Kit) (a : LooperState) : Type 0 where
   left : HasLeftIn m.lockstep s k j kit a
   one : k < length queues
   number : (r : ℕ) (x : QueueRecord) → r < length queues → (slice_index_or queues r x).looper ≡ r
@@ -133,16 +133,16 @@ record Known (m : Mode) (s : Script) (queues : List QueueRecord) (k : ℕ) (j : 
   timely : IfLockstep m (AreTimely s queues k a)
   framed : IfLockstep m (has_frames j.acts a ≡ true)
 
-module _ (mode : Mode) (s : Script) (queues : List QueueRecord) (k : ℕ) (j : Journal) (f : FrameRecord) (kit : Kit) (a : Looper) (h : Known mode s queues k j f kit a) where
+module _ (mode : Mode) (s : Script) (queues : List QueueRecord) (k : ℕ) (j : Journal) (f : FrameRecord) (kit : Kit) (a : LooperState) (h : Known mode s queues k j f kit a) where
   -- its acts lead there
   is_lawful : lawful s.period (phase_count s.edition) f.entries ≡ true
   is_lawful = (λ i. lawful (sym h.lawful_.interval i) (sym h.lawful_.phases i) f.entries) ∙ h.lawful_.lawful
 
-  led : (x : QueueRecord) → Lead s k (history_of (slice_index_or queues k x)) f.entries (first_looper s) j.acts a
+  led : (x : QueueRecord) → ActsLead s k (history_of (slice_index_or queues k x)) f.entries (first_looper s) j.acts a
   led x =
       let begins = h.seen x in
-      subst (λ (es : List Entry). Lead s k es f.entries (first_looper s) j.acts a) begins.1
-      (Lead-entries s k (slice_index_or kit.posters.items k h.poster).view.seen f.entries begins.0 (first_looper s) j.acts a (h.left.led h.poster h.pass f.entries (h.frames 0 (omega arith)) is_lawful))
+      subst (λ (es : List Entry). ActsLead s k es f.entries (first_looper s) j.acts a) begins.1
+      (ActsLead-entries s k (slice_index_or kit.posters.items k h.poster).view.seen f.entries begins.0 (first_looper s) j.acts a (h.left.led h.poster h.pass f.entries (h.frames 0 (omega arith)) is_lawful))
 
   -- it looks at its own queue alone
   looks_own : (x : QueueRecord) → LooksAtOwn s k a
@@ -181,7 +181,7 @@ module _ (mode : Mode) (s : Script) (queues : List QueueRecord) (k : ℕ) (j : J
       subst (λ (m : ℕ). TimeAt at m (history_of (slice_index_or queues r y))) (sym (h.number r y lt)) (time_at t r y lt)) in
       record {
         final = a;
-        acts = subst (λ (m : ℕ). Lead s m (history_of q) f.entries (first_looper s) j.acts a) (sym is) (led x);
+        acts = subst (λ (m : ℕ). ActsLead s m (history_of q) f.entries (first_looper s) j.acts a) (sym is) (led x);
         settled = h.left.settled;
         dispatches = h.told x ∙ ap (λ (m : ℕ). filter_map (λ (e : Entry). call_dispatch e.call e.reply) (entries_by (looper_sender s m) (history_of q))) (sym is);
         disposed_at = at;
@@ -231,7 +231,7 @@ module _ (mode : Mode) (s : Script) (queues : List QueueRecord) (k : ℕ) (j : J
       (subst (λ l. AreFor IsSent [] l (entries_by (looper_sender s k) es)) (sym (caused_side k at a side))
       (subst (λ (l : List Entry). AreFor IsSent [] (sent_on k a.sent ++ look ∷ []) l) (sym whole) (AreFor-snoc IsSent (sent_on k a.sent) look cs e (calls_here x) (closing_sent k (tokens_in cs) e is))))
       (λ t. (λ i. are_on_time (timings (caused_side k at a side i)) (ends.1 i))
-      ∙ (ap (λ ts. are_on_time ts (befores_called (looper_sender s k) es ++ ends.0 ∷ [])) (map-append (λ (y : Sent). y.timing) (sent_on k a.sent) (look ∷ []))
+      ∙ (ap (λ ts. are_on_time ts (befores_called (looper_sender s k) es ++ ends.0 ∷ [])) (map-append (λ (y : SentCall). y.timing) (sent_on k a.sent) (look ∷ []))
       ∙ are_on_time-snoc (timings (sent_on k a.sent)) (NotBefore 0) (befores_called (looper_sender s k) es) ends.0 (t.here x) late))
 
 -- the parts of what is said of the controller's calls on a queue
@@ -393,7 +393,7 @@ module _ (mode : Mode) (s : Script) (hall : Hall) (kits : List Kit) (queues : Li
       let is = history mode s hall kits queues h are c held recs all seen zero x lt in
       let main = is.main ∙ eq-eqb q.looper 0 (number mode s hall kits queues h are c held recs all seen zero x lt) in
       main_run mode s queues zero (slice_index_or js zero j) (slice_index_or fs zero f) (kit_at zero) (stood zero lt).state (known zero j f lt) x refl
-      (none_by (looper_sender s zero) (history_of q) (open_history q.senders (history_of q) (main_is_not_disposed (setting_of q) q.senders main (history_of q) is.legal)))
+      (none_by (looper_sender s zero) (history_of q) (open_history q.senders (history_of q) (main_is_not_disposed (record_setting q) q.senders main (history_of q) is.legal)))
   looper_run (suc k) x j f lt = by_last (own_disposes (suc k) x j lt)
     where
       by_last : DisposesLast (entries_by (looper_sender s (suc k)) (history_of (slice_index_or queues (suc k) x))) → IsLooperRun mode s queues (slice_index_or queues (suc k) x) (slice_index_or js (suc k) j) (slice_index_or fs (suc k) f)
@@ -406,9 +406,9 @@ module _ (mode : Mode) (s : Script) (hall : Hall) (kits : List Kit) (queues : Li
           let by_each : (m : ℕ) → m < q.senders → NoneDisposes (entries_by m (history_of q)) = λ m below. dite (ℕ_discrete m (looper_sender s (suc k)))
           (λ same. subst (λ n. NoneDisposes (entries_by n (history_of q))) (sym same) mine)
           (λ apart. others_dispose_nothing (suc k) x j f lt m (omega (arith, below, senders)) apart) in
-          let all_known = AreNumbered-known (setting_of q) (empty_base q.senders) (history_of q) (length-replicate q.senders 0) is.numbered in
+          let all_known = AreNumbered-known (record_setting q) (empty_base q.senders) (history_of q) (length-replicate q.senders 0) is.numbered in
           let every = none_of_all q.senders (history_of q) (subst (λ n. AllByRecursion (λ (e : Entry). e.sender < n) (history_of q)) (length-replicate q.senders 0) all_known) by_each in
-          let zero_ : disposed_count (history_of q) ≡ 0 = none_counted (history_of q) (looks_dispose (setting_of q) q.senders (history_of q) is.legal) every in
+          let zero_ : disposed_count (history_of q) ≡ 0 = none_counted (history_of q) (looks_dispose (record_setting q) q.senders (history_of q) is.legal) every in
           let one_ : disposed_count (history_of q) ≡ 1 = side_count q.main (disposed_count (history_of q)) side (controlled_parts q.main q.lockstep (controller s) s.end (history_of q) (All_indexed (IsControlled s) queues controls (suc k) x lt)).1 in
           absurd (let wrong : ◌≡◌ {A = ℕ} 0 1 = sym zero_ ∙ one_ in omega (arith, wrong)))
       by_last (inr last) =

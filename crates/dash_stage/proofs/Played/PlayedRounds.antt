@@ -21,22 +21,22 @@ use Rattle.looper_run.specs.Round.{is_ended}
 use Rattle.run_model.specs.Planned.{controller, looper_sender, sender_count, entries_by}
 use Rattle.run_model.specs.Control.{Before, Timing, At, InBlock, NotBefore, is_on_time, are_on_time, befores, come_first}
 use Rattle.run_model.specs.Parts.{befores_after, sent_on}
-use Rattle.run_model.specs.Loopers.{Looper, Sent}
+use Rattle.run_model.specs.Loopers.{LooperState, SentCall}
 use Rattle.run_model.specs.FrameRecords.{asks_in}
 use Rattle.run_model.proofs.RunLaws.{sent_on-append}
 use Rattle.dash_hall.specs.Hearing.{AtEach, HaveHeard}
-use Rattle.dash_hall.specs.Hosts.{asks_of}
+use Rattle.dash_hall.specs.Hosts.{pass_asks}
 use Rattle.dash_threads.specs.Threads.{ThreadKeeps}
 use Rattle.dash_loopers.specs.declared.player.Parts.{Parts}
 use Rattle.dash_loopers.specs.declared.looper.StageLooper.{StageLooper}
-use Rattle.dash_loopers.specs.Loopers.{IsSoundOn, setting_for, is_given_up, posters_of, Rest, rest_in, LooperKeeps}
-use Rattle.dash_loopers.specs.Played.{calls_in, Stands, IsTimedBy, GoesOnTo, HasCome, ComesTo, HasPlayed}
+use Rattle.dash_loopers.specs.Loopers.{IsSoundOn, setting_for, is_given_up, posters_of, LooperRest, rest_in, LooperKeeps}
+use Rattle.dash_loopers.specs.Played.{calls_in, Stands, IsTimedBy, GoesOnTo, StandsBetweenRounds, ComesTo, HasPlayed}
 use Rattle.dash_loopers.proofs.LooperAsks.{AskAt, ask_nothing, ask_then, asks_in_round}
 use Rattle.dash_stage.specs.declared.stage.Stage.{Stage}
 use Rattle.dash_stage.specs.Stages.{IsStage, AreLoopers, LoopersGoOn}
 use Rattle.dash_stage.specs.Sharing.{HaveSeenTheSame}
 use Rattle.dash_stage.specs.Timeliness.{whole_on, AreSound, IsAtTime}
-use Rattle.dash_stage.specs.Playing.{HaveComeFirst, befores_called, IsMet, AreCallsOnTime, IsTimelyLooper, IsInTime, AreInTime, IsInStep, PlaysOn}
+use Rattle.dash_stage.specs.Playing.{CallsCameFirst, befores_called, IsMet, AreCallsOnTime, IsTimelyLooper, IsInTime, AreInTime, IsInStep, PlaysOn}
 use Rattle.dash_stage.proofs.BlockTimes.BlocksFirst.{first_more}
 use Rattle.dash_stage.proofs.Sharing.LooperShares.{looper_parts, own_kept}
 use Rattle.loop_model.proofs.AfterLaws.{disposed_stays}
@@ -57,15 +57,15 @@ on_time_long (t ∷ ts) [] h = absurd cc
 on_time_long (t ∷ ts) (b ∷ bs) h = ap suc (on_time_long ts bs (and_parts (is_on_time t b) (are_on_time ts bs) h).1)
 
 -- the timings of the calls on one queue
-abbrev pub timings : ℕ → List Sent → List Timing
+abbrev pub timings : ℕ → List SentCall → List Timing
 timings r xs = map (λ x. x.timing) (sent_on r xs)
 
-next_on : (P : Timing → Type 0) (t : Bool) (x : Sent) (xs : List Sent) → (t ≡ true → P x.timing) → AllByRecursion P (map (λ x. x.timing) xs) → AllByRecursion P (map (λ x. x.timing) (if t then x ∷ xs else xs))
+next_on : (P : Timing → Type 0) (t : Bool) (x : SentCall) (xs : List SentCall) → (t ≡ true → P x.timing) → AllByRecursion P (map (λ x. x.timing) xs) → AllByRecursion P (map (λ x. x.timing) (if t then x ∷ xs else xs))
 next_on P true x xs one all = (one refl, all)
 next_on P false x xs one all = all
 
 -- what holds of each call on the queue holds of these timings
-all_on : (P : Timing → Type 0) (r : ℕ) (xs : List Sent) → AllByRecursion (λ x. x.queue ≡ r → P x.timing) xs → AllByRecursion P (timings r xs)
+all_on : (P : Timing → Type 0) (r : ℕ) (xs : List SentCall) → AllByRecursion (λ x. x.queue ≡ r → P x.timing) xs → AllByRecursion P (timings r xs)
 all_on P r [] h = tt
 all_on P r (x ∷ xs) h = next_on P (x.queue == r) x (sent_on r xs) (λ e. h.0 (eqb-true x.queue r e)) (all_on P r xs h.1)
 
@@ -82,7 +82,7 @@ unfolding befores
 befores_long k es = befores_count k [] es
 
 -- the timings of a state that went on
-timings_more : (r : ℕ) (xs ys more : List Sent) → ys ≡ xs ++ more → timings r ys ≡ timings r xs ++ timings r more
+timings_more : (r : ℕ) (xs ys more : List SentCall) → ys ≡ xs ++ more → timings r ys ≡ timings r xs ++ timings r more
 timings_more r xs ys more is = ap (timings r) is ∙ (ap (map (λ x. x.timing)) (sent_on-append r xs more) ∙ map-append (λ x. x.timing) (sent_on r xs) (sent_on r more))
 
 -- where neither of two facts holds the first does not
@@ -116,7 +116,7 @@ module _ (s : Script) (q time : ℕ) where
     at_one r queue (InBlock t) apart h on = absurd h
     at_one r queue (NotBefore t) apart h on = absurd (apart (sym on ∙ h.1))
 
-    module _ (a b : Looper) (g : GoesOnTo q k looks time a b) where
+    module _ (a b : LooperState) (g : GoesOnTo q k looks time a b) where
       each_timed : AllByRecursion (λ x. IsTimedBy q k looks time x.queue x.timing) g.more
       each_timed = All_recursive (λ x. IsTimedBy q k looks time x.queue x.timing) g.more g.timed
 
@@ -182,7 +182,7 @@ module _ (s : Script) (text : HasText s) (st : Stage) (ls : List StageLooper) (s
   in_round k lt = (subst (λ (n : ℕ). k < n) (is'.loopers.0 ∙ sym is.loopers.0) lt, subst (λ (n : ℕ). k < n) kept.long lt)
 
   -- the threads have called nothing
-  round_first : HaveComeFirst s st'
+  round_first : CallsCameFirst s st'
   round_first sound q d lt' =
       let lt = within_before q lt' in
       let es = whole_on st.controller q d in
@@ -301,7 +301,7 @@ module _ (s : Script) (text : HasText s) (st : Stage) (ls : List StageLooper) (s
       came = (went played).2
 
       -- the looper stands at the new state
-      comes_on : HasCome s ran came.state
+      comes_on : StandsBetweenRounds s ran came.state
       comes_on =
           let one = loopers.1 k l in_ran in
           let mine : sender ≡ ran.sender = ap (λ (n : ℕ). s.threads + n) (sym one.1) ∙ sym one.0.sender in
@@ -309,7 +309,7 @@ module _ (s : Script) (text : HasText s) (st : Stage) (ls : List StageLooper) (s
           (subst (λ (n : ℕ). Stands s n ran.sender ran.looper.held.poster.view.seen ran.looper.held.journal.acts (went played).0 came.state) (sym one.1)
           (subst (λ (n : ℕ). Stands s k n ran.looper.held.poster.view.seen ran.looper.held.journal.acts (went played).0 came.state) mine came.stands))
 
-      comes_left : HasCome s left came.state
+      comes_left : StandsBetweenRounds s left came.state
       comes_left = heard_come s st.hall is.hall ran (loopers.1 k l in_ran).0 left (kept.each k l in_ran) came.state comes_on
 
       -- its queue was at the time
@@ -363,7 +363,7 @@ module _ (s : Script) (text : HasText s) (st : Stage) (ls : List StageLooper) (s
     asks_kept p p' had has =
         let heard = (kept.each k l in_ran).rest (record { frames = p.frames; root = p.root; fired = p.fired.items; passed = p.passed; awaits = p.awaits }) (ap rest_in had) in
         let is_rest : heard.0 ≡ record { frames = p'.frames; root = p'.root; fired = p'.fired.items; passed = p'.passed; awaits = p'.awaits } = same_Some _ _ (sym heard.1 ∙ ap rest_in has) in
-        ask_nothing st.time p p' (ap (λ (r : Rest). asks_of r.root.pass) (sym is_rest) ∙ ap asks_in heard.2.client.same.own) (ap (λ (r : Rest). asks_of r.frames) (sym is_rest) ∙ ap asks_in heard.2.frames.same.own)
+        ask_nothing st.time p p' (ap (λ (r : LooperRest). pass_asks r.root.pass) (sym is_rest) ∙ ap asks_in heard.2.client.same.own) (ap (λ (r : LooperRest). pass_asks r.frames) (sym is_rest) ∙ ap asks_in heard.2.frames.same.own)
 
     asked_one : PlaysOn s st.time began ran → (p p' : Parts) → began.parts ≡ Some p → left.parts ≡ Some p' → AskAt st.time p p'
     asked_one (inl stays) p p' had has = asks_kept p p' (ap (λ (z : StageLooper). z.parts) stays ∙ had) has

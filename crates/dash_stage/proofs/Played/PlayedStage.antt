@@ -17,14 +17,14 @@ use Rattle.loop_model.proofs.Prefixes.{prefix_trans, prefix_length}
 use Rattle.looper_run.specs.Holding.{Sender}
 use Rattle.run_model.specs.Planned.{AreFor, entries_by, looper_sender, sender_count}
 use Rattle.run_model.specs.AskedSoFar.{tokens_in}
-use Rattle.run_model.specs.Loopers.{Looper, first_looper, Lead, IsSent}
+use Rattle.run_model.specs.Loopers.{LooperState, first_looper, ActsLead, IsSent}
 use Rattle.run_model.specs.Parts.{sent_on}
 use Rattle.loop_model.specs.Base.{empty_base}
 use Rattle.loop_model.specs.Answers.{clock}
 use Rattle.choreographer.proofs.InTime.{later_quietly}
 use Rattle.dash_loopers.specs.PlayingLaws.{runs_later}
 use Rattle.run_model.specs.Control.{are_on_time, befores}
-use Rattle.run_model.proofs.Growth.{Lead-entries}
+use Rattle.run_model.proofs.Growth.{ActsLead-entries}
 use Rattle.dash_hall.specs.declared.hall.Hall.{Hall}
 use Rattle.dash_hall.specs.Growth.{own}
 use Rattle.dash_hall.specs.Kits.{IsHall}
@@ -33,8 +33,8 @@ use Rattle.dash_loopers.specs.declared.player.Parts.{Parts}
 use Rattle.dash_loopers.specs.declared.view_root.ViewRoot.{ViewRoot}
 use Rattle.dash_loopers.specs.declared.looper.StageLooper.{StageLooper}
 use Rattle.dash_loopers.specs.Players.{PlaceWithout}
-use Rattle.dash_loopers.specs.Loopers.{IsLooper, IsSoundOn, Rest, LooperKeeps, posters_of, others_in, rest_in, is_disposal}
-use Rattle.dash_loopers.specs.Played.{calls_in, IsRootOf, IsShown, IsPlayed, IsUpTo, StandsBy, HasCome, HasComeBy}
+use Rattle.dash_loopers.specs.Loopers.{IsLooper, IsSoundOn, LooperRest, LooperKeeps, posters_of, others_in, rest_in, is_disposal}
+use Rattle.dash_loopers.specs.Played.{calls_in, IsRootOf, IsShown, IsPlayed, IsUpTo, StandsBy, StandsBetweenRounds, StandsBetweenLoops}
 use Rattle.dash_stage.specs.declared.stage.Stage.{Stage}
 use Rattle.dash_stage.specs.Stages.{IsStage}
 use Rattle.dash_stage.specs.Sharing.{HaveSeenTheSame}
@@ -69,7 +69,7 @@ others_called n xs ys p p' le le' heard =
     )
 
 -- a view root whose pass heard others stands as it stood
-shown_heard : (s : Script) (q : ℕ) (made : List Entry) (root root' : ViewRoot) (a : Looper) → PassHasHeard root.pass root'.pass → root' ≡ record root { pass = root'.pass } → IsShown s q made root a → IsShown s q made root' a
+shown_heard : (s : Script) (q : ℕ) (made : List Entry) (root root' : ViewRoot) (a : LooperState) → PassHasHeard root.pass root'.pass → root' ≡ record root { pass = root'.pass } → IsShown s q made root a → IsShown s q made root' a
 shown_heard s q made root root' a heard same st = record {
   calls = st.calls;
   asked = ap (λ (es : List FrameEntry). asks_in es) heard.same.own ∙ st.asked;
@@ -85,14 +85,14 @@ shown_heard s q made root root' a heard same st = record {
 }
 
 -- a looper stands where it stood, whatever more it has seen of others
-stands_heard : {lockstep : Bool} (s : Script) (q k : ℕ) (es es' : List Entry) (acts : List Act) (parts parts' : Parts) (did a : Looper) → IsPrefix es es' → calls_in k es' ≡ calls_in k es
+stands_heard : {lockstep : Bool} (s : Script) (q k : ℕ) (es es' : List Entry) (acts : List Act) (parts parts' : Parts) (did a : LooperState) → IsPrefix es es' → calls_in k es' ≡ calls_in k es
     → PassHasHeard parts.frames parts'.frames → PassHasHeard parts.root.pass parts'.root.pass → parts'.root ≡ record parts.root { pass = parts'.root.pass } → parts'.fired.items ≡ parts.fired.items → parts'.awaits ≡ parts.awaits → length parts'.others.items ≡ length parts.others.items
     → ((j : ℕ) (d : Sender) → j < length parts.others.items → own (slice_index_or parts'.others.items j d) ≡ own (slice_index_or parts.others.items j d))
     → StandsBy lockstep s q k es acts parts did a → StandsBy lockstep s q k es' acts parts' did a
 stands_heard {lockstep} s q k es es' acts parts parts' did a more calls frames client root fired awaits long called st = record {
   led = λ fs begins law.
-      subst (λ l. Lead s q l fs (first_looper s) acts a) more.1
-      (Lead-entries s q es fs more.0 (first_looper s) acts a (st.led fs (prefix_trans parts.frames.view.seen parts'.frames.view.seen fs frames.seen begins) law));
+      subst (λ l. ActsLead s q l fs (first_looper s) acts a) more.1
+      (ActsLead-entries s q es fs more.0 (first_looper s) acts a (st.led fs (prefix_trans parts.frames.view.seen parts'.frames.view.seen fs frames.seen begins) law));
   place = let le = prefix_length parts.frames.view.seen parts'.frames.view.seen frames.seen in let was = st.place in omega (arith, le, was);
   moments = λ is fs begins law. st.moments is fs (prefix_trans parts.frames.view.seen parts'.frames.view.seen fs frames.seen begins) law;
   whole = λ fs begins law. st.whole fs (prefix_trans parts.frames.view.seen parts'.frames.view.seen fs frames.seen begins) law;
@@ -126,11 +126,11 @@ stands_heard {lockstep} s q k es es' acts parts parts' did a more calls frames c
 
 module _ (s : Script) (hall : Hall) (is_hall : IsHall s hall) (l : StageLooper) (is : IsLooper s hall l) (b : StageLooper) (k : LooperKeeps HaveHeard l b) where
   -- a looper that only heard others stands where it stood
-  heard_stands : (lockstep : Bool) (did a : Looper) → IsSomeAnd l.parts (λ parts. StandsBy lockstep s l.number l.sender l.looper.held.poster.view.seen l.looper.held.journal.acts parts did a)
+  heard_stands : (lockstep : Bool) (did a : LooperState) → IsSomeAnd l.parts (λ parts. StandsBy lockstep s l.number l.sender l.looper.held.poster.view.seen l.looper.held.journal.acts parts did a)
       → IsSomeAnd b.parts (λ parts. StandsBy lockstep s b.number b.sender b.looper.held.poster.view.seen b.looper.held.journal.acts parts did a)
   heard_stands lockstep did a come =
       let p = looper_parts s hall is_hall l is in
-      let r : Rest = record { frames = p.0.frames; root = p.0.root; fired = p.0.fired.items; passed = p.0.passed; awaits = p.0.awaits } in
+      let r : LooperRest = record { frames = p.0.frames; root = p.0.root; fired = p.0.fired.items; passed = p.0.passed; awaits = p.0.awaits } in
       let told = k.rest r (ap rest_in p.1) in
       let q = with_rest b.parts told.0 told.1 in
       let rest = sym (same_Some _ _ q.2) in
@@ -148,22 +148,22 @@ module _ (s : Script) (hall : Hall) (is_hall : IsHall s hall) (l : StageLooper) 
       let before : StandsBy lockstep s n l.sender l.looper.held.poster.view.seen l.looper.held.journal.acts p.0 did a = subst (λ (o : Option Parts). IsSomeAnd o (λ parts. StandsBy lockstep s n l.sender l.looper.held.poster.view.seen l.looper.held.journal.acts parts did a)) p.1 come in
       let after : StandsBy lockstep s n l.sender b.looper.held.poster.view.seen l.looper.held.journal.acts q.0 did a =
       stands_heard s n l.sender l.looper.held.poster.view.seen b.looper.held.poster.view.seen l.looper.held.journal.acts p.0 q.0 did a heard.more calls
-      (subst (λ (z : Rest). PassHasHeard p.0.frames z.frames) rest told.2.frames) (subst (λ (z : Rest). PassHasHeard p.0.root.pass z.root.pass) rest told.2.client)
-      (subst (λ (z : Rest). z.root ≡ record p.0.root { pass = z.root.pass }) rest told.2.root) (subst (λ (z : Rest). z.fired ≡ p.0.fired.items) rest told.2.fired) (subst (λ (z : Rest). z.awaits ≡ p.0.awaits) rest told.2.awaits) others.0 others.1 before in
+      (subst (λ (z : LooperRest). PassHasHeard p.0.frames z.frames) rest told.2.frames) (subst (λ (z : LooperRest). PassHasHeard p.0.root.pass z.root.pass) rest told.2.client)
+      (subst (λ (z : LooperRest). z.root ≡ record p.0.root { pass = z.root.pass }) rest told.2.root) (subst (λ (z : LooperRest). z.fired ≡ p.0.fired.items) rest told.2.fired) (subst (λ (z : LooperRest). z.awaits ≡ p.0.awaits) rest told.2.awaits) others.0 others.1 before in
       subst (λ (o : Option Parts). IsSomeAnd o (λ parts. StandsBy lockstep s b.number b.sender b.looper.held.poster.view.seen b.looper.held.journal.acts parts did a)) (sym q.1)
       (subst (λ (m : ℕ). StandsBy lockstep s m b.sender b.looper.held.poster.view.seen b.looper.held.journal.acts q.0 did a) (sym k.number)
       (subst (λ (m : ℕ). StandsBy lockstep s n m b.looper.held.poster.view.seen b.looper.held.journal.acts q.0 did a) (sym k.sender)
       (subst (λ (j : Journal). StandsBy lockstep s n l.sender b.looper.held.poster.view.seen j.acts q.0 did a) (sym k.beside.journal) after)))
 
   -- it has come as far, in lockstep and by a clock
-  pub heard_come : (a : Looper) → HasCome s l a → HasCome s b a
+  pub heard_come : (a : LooperState) → StandsBetweenRounds s l a → StandsBetweenRounds s b a
   heard_come a come = heard_stands true a a come
 
-  pub heard_come_by : (did a : Looper) → HasComeBy s l did a → HasComeBy s b did a
+  pub heard_come_by : (did a : LooperState) → StandsBetweenLoops s l did a → StandsBetweenLoops s b did a
   heard_come_by did a come = (come.0, heard_stands false did a come.1)
 
 -- the entries that were seen of the looper's calls are as many as the state tells
-module _ (s : Script) (st : Stage) (is : IsStage s st) (same : HaveSeenTheSame st) (k : ℕ) (l : StageLooper) (lt : k < length st.loopers.items) (a : Looper) (come : HasCome s (slice_index_or st.loopers.items k l) a) where
+module _ (s : Script) (st : Stage) (is : IsStage s st) (same : HaveSeenTheSame st) (k : ℕ) (l : StageLooper) (lt : k < length st.loopers.items) (a : LooperState) (come : StandsBetweenRounds s (slice_index_or st.loopers.items k l) a) where
   abbrev looper : StageLooper
   looper = slice_index_or st.loopers.items k l
 
@@ -211,7 +211,7 @@ module _ (s : Script) (st : Stage) (is : IsStage s st) (same : HaveSeenTheSame s
 -- ---- all loopers
 
 -- calls of a looper that made nothing more came at their times still
-pub still_on_time : (s : Script) (st st' : Stage) (k : ℕ) (a : Looper)
+pub still_on_time : (s : Script) (st st' : Stage) (k : ℕ) (a : LooperState)
     → ((q : ℕ) (d : Sender) → q < length st'.controller.kit.posters.items → q < length st.controller.kit.posters.items)
     → ((q : ℕ) (d : Sender) → q < length st.controller.kit.posters.items → IsPrefix (whole_on st.controller q d) (whole_on st'.controller q d))
     → ((q : ℕ) (d : Sender) → q < length st.controller.kit.posters.items → entries_by (looper_sender s k) (whole_on st'.controller q d) ≡ entries_by (looper_sender s k) (whole_on st.controller q d))

@@ -16,7 +16,7 @@ use Rattle.loop_model.specs.Entries.{moment_of}
 use Rattle.loop_model.specs.Items.{when_of}
 use Rattle.loop_model.specs.Pick.{first_eligible, pick, due}
 use Rattle.loop_model.specs.Answers.{clock, has_disposed, is_over}
-use Rattle.loop_model.specs.Legal.{IsLegal, AreNumbered, IsTimely}
+use Rattle.loop_model.specs.Legal.{IsLegal, AreNumbered, CallFitsTime}
 use Rattle.loop_model.proofs.AfterLaws.{clock-snoc, disposed_stays}
 use Rattle.loop_model.proofs.LegalLaws.{IsLegal-last}
 use Rattle.dash_script.specs.declared.script.Script.{Script}
@@ -34,9 +34,9 @@ use Rattle.dash_stage.specs.declared.stage.Stage.{Stage}
 use Rattle.dash_stage.specs.Controllers.{are_advances, time_in, calls_on}
 use Rattle.dash_stage.specs.Stages.{IsStage}
 use Rattle.dash_stage.specs.Sharing.{HaveSeenTheSame}
-use Rattle.dash_stage.specs.Timeliness.{whole_on, AreSound, HasNoneBefore, MovesTo, MovesNot, HaveCome}
+use Rattle.dash_stage.specs.Timeliness.{whole_on, AreSound, HasNoneBefore, MovesTo, MovesNot, HaveReachedTime}
 use Rattle.dash_stage.specs.AtBlocks.{IsAtBlock}
-use Rattle.dash_stage.specs.Playing.{AreAtBlock, LiesAhead, HaveComeFirst, IsInTime, AreInTime, IsInStep, IsStuck}
+use Rattle.dash_stage.specs.Playing.{AreAtBlock, LiesAhead, CallsCameFirst, IsInTime, AreInTime, IsInStep, IsStuck}
 use Rattle.dash_stage.proofs.Controller.Controls.{time_by_controller}
 use Rattle.dash_stage.proofs.Stages.Timely.{clock_stays, has_disposed_same, on_time_open, on_time_gone}
 use Rattle.run_model.proofs.FreshLaws.{nothing_fresh, fresh_moved}
@@ -49,7 +49,7 @@ use Rattle.dash_stage.proofs.Stages.StageTurns.{heard_entries, only_threads}
 use Rattle.dash_stage.proofs.Played.PlayedStage.{played_kept, sound_before}
 
 -- the calls but an Advance come at the queue's time
-moment_not : (time : ℕ) (c : Call) → IsTimely true time c → is_advance c ≡ false → moment_of c ≤ time
+moment_not : (time : ℕ) (c : Call) → CallFitsTime true time c → is_advance c ≡ false → moment_of c ≤ time
 moment_not time (Post p) timely isnt = omega arith
 moment_not time (Barrier now) timely isnt = omega (arith, timely)
 moment_not time (Unbarrier t) timely isnt = omega arith
@@ -126,7 +126,7 @@ gone_before senders threads time es gone earlier = record {
 moved_now : (s : Script) (q time : ℕ) (es : List Entry) (e : Entry) → MovesTo time e → IsSoundOn s q (es ++ e ∷ []) → IsAtBlock s.threads time (es ++ e ∷ [])
 moved_now s q time es e is sound =
     let base = empty_base (sender_count s) in
-    let le = subst (IsTimely true (clock base es)) is (IsLegal-last (setting_for s q) base es e sound.legal).timely in
+    let le = subst (CallFitsTime true (clock base es)) is (IsLegal-last (setting_for s q) base es e sound.legal).timely in
     let at = clock_moved base es e time is in
     record {
       on_time = on_time_open (sender_count s) time (es ++ e ∷ []) (moved_is_open (setting_for s q) (sender_count s) es e time is sound.legal) (omega (arith, at, le));
@@ -135,7 +135,7 @@ moved_now s q time es e is sound =
 
 -- the threads ran a block, which came first
 pub block_first : (s : Script) (st st' : Stage) → IsStage s st → IsStage s st' → HaveSeenTheSame st' → AtEach (LooperKeeps HaveHeard) st.loopers.items st'.loopers.items
-    → HaveHeard st.controller.kit.posters.items st'.controller.kit.posters.items → IsInStep s st → (time : ℕ) → (AreSound s st.controller → AreAtBlock s time st) → HaveComeFirst s st'
+    → HaveHeard st.controller.kit.posters.items st'.controller.kit.posters.items → IsInStep s st → (time : ℕ) → (AreSound s st.controller → AreAtBlock s time st) → CallsCameFirst s st'
 block_first s st st' is is' same' kept heard step time at sound q d lt' =
     let lt : q < length st.controller.kit.posters.items = subst (λ (n : ℕ). q < n) heard.long lt' in
     let set = setting_for s q in
@@ -155,7 +155,7 @@ one_first s P es whole h (inr t) = ap (come_first s.threads) t.1 ∙ first_one s
 
 -- the threads ran a block, and then all heard each other
 pub block_in_step : (s : Script) (st st' : Stage) → IsStage s st → IsStage s st' → HaveSeenTheSame st' → st'.time ≡ st.time → AtEach (LooperKeeps HaveHeard) st.loopers.items st'.loopers.items
-    → HaveHeard st.controller.kit.posters.items st'.controller.kit.posters.items → IsInStep s st → HaveComeFirst s st' → IsInStep s st'
+    → HaveHeard st.controller.kit.posters.items st'.controller.kit.posters.items → IsInStep s st → CallsCameFirst s st' → IsInStep s st'
 block_in_step s st st' is is' same' now kept heard step first =
     let grown : (q : ℕ) (d : Sender) → q < length st.controller.kit.posters.items → IsPrefix (whole_on st.controller q d) (whole_on st'.controller q d) = λ q d lt. (heard.each q d lt).more in
     let base = empty_base (sender_count s) in
@@ -194,7 +194,7 @@ module _ {P : Entry → Type 0} {s : Script} {st : Stage} {c : Controller} {st' 
       → (whole_on st'.controller q d ≡ whole_on st.controller q d) ⊎ ((e : Entry) × (whole_on st'.controller q d ≡ whole_on st.controller q d ++ e ∷ []) × P e × (e.sender ≡ controller s))
   turn_at sound q d lt = turned_on o q d lt (sound_at sound q d lt).numbered
 
-  turned_first : HaveComeFirst s st → HaveComeFirst s st'
+  turned_first : CallsCameFirst s st → CallsCameFirst s st'
   turned_first first sound q d lt' =
       let lt : q < length st.controller.kit.posters.items = subst (λ (n : ℕ). q < n) (longer o) lt' in
       one_first s P (whole_on st.controller q d) (whole_on st'.controller q d) (first (sound_by_turns o sound) q d lt) (turn_at sound q d lt)
@@ -257,7 +257,7 @@ module _ {s : Script} {time : ℕ} {st : Stage} {c : Controller} {st' : Stage} {
   ]
 
   -- and each has come to the time, or is over
-  all_come : AreSound s st'.controller → HaveCome s time c
+  all_come : AreSound s st'.controller → HaveReachedTime s time c
   all_come sound = a.come (is_drained sound)
 
   pub advanced_sound : AreSound s st'.controller → (drained ≡ true) × AreSound s st.controller

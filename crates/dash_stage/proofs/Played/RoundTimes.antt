@@ -10,7 +10,7 @@ use Rattle.loop_model.specs.declared.reply.Reply.{Reply}
 use Rattle.loop_model.specs.declared.entry.Entry.{Entry}
 use Rattle.loop_model.specs.Base.{empty_base}
 use Rattle.loop_model.specs.Answers.{Setting, clock, has_disposed, has_halted, answer}
-use Rattle.loop_model.specs.Legal.{IsLegal, MayFollow, IsTimely, IsLegalAfter}
+use Rattle.loop_model.specs.Legal.{IsLegal, MayFollow, CallFitsTime, IsLegalAfter}
 use Rattle.loop_model.proofs.LegalLaws.{IsLegal-front, IsLegalAfter-back}
 use Rattle.loop_model.proofs.NumberLaws.{AreNumbered-front}
 use Rattle.dash_script.specs.declared.script.Script.{Script}
@@ -121,7 +121,7 @@ module _ (s : Script) (q time : ℕ) where
   -- a look that came more, while the controller called nothing, came at the time
   look_timed : (es : List Entry) (e : Entry) (t : ℕ) → MayFollow set (empty_base (sender_count s)) es e → e.call ≡ Next t → IsAtTime (sender_count s) time es → t ≡ time
   unfolding answer
-  look_timed es e t may is (inl now) = subst (IsTimely true (clock (empty_base (sender_count s)) es)) is may.timely ∙ now
+  look_timed es e t may is (inl now) = subst (CallFitsTime true (clock (empty_base (sender_count s)) es)) is may.timely ∙ now
   look_timed es e t may is (inr (gone, by)) =
       let none = sym (ap (λ c. answer set (empty_base (sender_count s)) es c) is) ∙ may.reply in
       absurd (over (has_disposed (empty_base (sender_count s)) es) (has_halted (empty_base (sender_count s)) es) gone _ _ none)

@@ -10,7 +10,7 @@ use Rattle.loop_model.specs.declared.segment.Segment.{Segment}
 use Rattle.frame_phases.specs.declared.entry.FrameEntry.{FrameEntry}
 use Rattle.looper_run.specs.Holding.{Sender}
 use Rattle.dash_script.specs.declared.script.Script.{Script}
-use Rattle.choreographer.specs.Known.{Shared as Frames}
+use Rattle.choreographer.specs.Known.{SharedFrames}
 use Rattle.run_model.specs.Planned.{sender_count, controller}
 use Rattle.dash_hall.specs.declared.hall.Hall.{Hall}
 use Rattle.dash_hall.specs.declared.kit.Kit.{Kit}
@@ -20,25 +20,25 @@ use Rattle.dash_stage.specs.declared.control.Controller.{Controller}
 use Rattle.dash_hall.specs.Kits.{badge_of, badge_for, frame_badge_of, frame_badge_for, frames_for, looper_frames, ArePostersOf, IsHall, IsKitOf, AreKitsOf, AreUnusedKits, IsUnusedKit}
 use Rattle.dash_threads.specs.Threads.{IsThread}
 use Rattle.dash_loopers.specs.Loopers.{IsLooper}
-use Rattle.dash_stage.specs.Controllers.{handed_out, parts_in, IsControllerIn}
+use Rattle.dash_stage.specs.Controllers.{parts_handed_out, parts_in, IsControllerIn}
 use Rattle.dash_stage.specs.Stages.{AreKitsFrom, AreThreadsFrom, AreLoopersFrom, AreFirstKits, AreFirstLoopers, AreLoopers, AreSenderKits}
 use Rattle.dash_hall.proofs.Badges.{alike_length, queue_count, choreographer_count}
 use Rattle.dash_stage.proofs.Controller.FrameLists.{nothing_handed_out}
 use Rattle.dash_stage.proofs.Ends.HallEnds.{numbers_more}
 
 -- a thread's passes
-pub frames_of_thread : (s : Script) (cs : List Frames) (k : ℕ) → k < s.threads → frames_for s cs k ≡ map (frame_badge_for k) cs
+pub frames_of_thread : (s : Script) (cs : List SharedFrames) (k : ℕ) → k < s.threads → frames_for s cs k ≡ map (frame_badge_for k) cs
 frames_of_thread s cs k lt =
     ap (λ (b : Bool). if b then map (frame_badge_for k) cs else (if nat_lt k (s.threads + s.loopers) then looper_frames s.threads (slice_get cs (k - s.threads)) else map (frame_badge_for (s.threads + 2)) cs)) (lt-ltb k s.threads lt)
 
 -- the controller's passes
-frames_of_controller : (s : Script) (cs : List Frames) → frames_for s cs (controller s) ≡ map (frame_badge_for (s.threads + 2)) cs
+frames_of_controller : (s : Script) (cs : List SharedFrames) → frames_for s cs (controller s) ≡ map (frame_badge_for (s.threads + 2)) cs
 frames_of_controller s cs =
     ap (λ (b : Bool). if b then map (frame_badge_for (controller s)) cs else (if nat_lt (controller s) (s.threads + s.loopers) then looper_frames s.threads (slice_get cs (controller s - s.threads)) else map (frame_badge_for (s.threads + 2)) cs)) (le-ltb (controller s) s.threads (omega arith))
     ∙ ap (λ (b : Bool). if b then looper_frames s.threads (slice_get cs (controller s - s.threads)) else map (frame_badge_for (s.threads + 2)) cs) (le-ltb (controller s) (s.threads + s.loopers) (omega arith))
 
 -- posters that handed nothing out
-pub nothing_handed : (ps : List Sender) → ((q : ℕ) (p : Sender) → q < length ps → (slice_index_or ps q p).view.sealed ≡ []) → handed_out ps ≡ replicate (length ps) []
+pub nothing_handed : (ps : List Sender) → ((q : ℕ) (p : Sender) → q < length ps → (slice_index_or ps q p).view.sealed ≡ []) → parts_handed_out ps ≡ replicate (length ps) []
 nothing_handed [] none = refl
 nothing_handed (p ∷ ps) none = λ i. none 0 p (omega arith) i ∷ nothing_handed ps (λ q d lt. none (suc q) d (omega (arith, lt))) i
 

@@ -6,7 +6,7 @@ use Rattle.std.proofs.lemmas.List.{get_or-set_same, get_or-set_other, get_or_def
 use mathlib.Core.Logic.{dite}
 use native.Mathlib.Decide.{ℕ_discrete}
 use Rattle.frame_phases.specs.declared.entry.FrameEntry.{FrameEntry}
-use Rattle.choreographer.specs.Known.{Shared as Frames, Known as Pass, IsOf as IsFrameOf}
+use Rattle.choreographer.specs.Known.{SharedFrames, Pass, IsPassOf}
 use Rattle.dash_script.specs.declared.script.Script.{Script}
 use Rattle.looper_run.specs.Holding.{Sender}
 use Rattle.dash_hall.specs.Kits.{FrameBadge, frame_badge_of, frame_badge_for}
@@ -16,14 +16,14 @@ use Rattle.dash_hall.proofs.PassesHearing.{passes_heard_at}
 use Rattle.dash_hall.proofs.Sharing.{each_weaker}
 use Rattle.dash_threads.specs.Threads.{ThreadKeeps, HearsPass}
 use Rattle.dash_loopers.specs.declared.looper.StageLooper.{StageLooper}
-use Rattle.dash_loopers.specs.Loopers.{Rest, rest_in, IsLooper, LooperKeeps, OfItsPasses, HearsPasses}
+use Rattle.dash_loopers.specs.Loopers.{LooperRest, rest_in, IsLooper, LooperKeeps, OfItsPasses, HearsPasses}
 use Rattle.dash_stage.specs.declared.stage.Stage.{Stage}
 use Rattle.dash_stage.specs.Stages.{IsStageIn}
 use Rattle.dash_stage.specs.Sharing.{StageKeeps, OfPasses, OfSenders, HaveSeenTheSame, HavePassesHeard, SharesFramesAt}
 use Rattle.dash_stage.proofs.Sharing.LooperShares.{looper_parts, looper_self}
 use Rattle.dash_stage.proofs.Sharing.StageShares.{of_senders_then}
 
-module _ {lockstep : Bool} (s : Script) (st : Stage) (is : IsStageIn lockstep s st) (place : ℕ) (near : place < s.loopers) (c : Frames) (at : c ≡ get_or st.hall.choreographers.items place c) where
+module _ {lockstep : Bool} (s : Script) (st : Stage) (is : IsStageIn lockstep s st) (place : ℕ) (near : place < s.loopers) (c : SharedFrames) (at : c ≡ get_or st.hall.choreographers.items place c) where
   -- each thread has a pass of the choreographer at this place
   pub passes_ready : OfPasses (ArePassesReady place c) st.threads.items
   passes_ready k d lt =
@@ -33,18 +33,18 @@ module _ {lockstep : Bool} (s : Script) (st : Stage) (is : IsStageIn lockstep s 
       let count = alike_length frame_badge_of (frame_badge_for t.number) t.kit.frames.items cs are in
       let all = choreographer_count s cs is.hall.choreographers in
       let within : place < length t.kit.frames.items = omega (arith, near, count, all) in
-      (within, λ p. subst (IsFrameOf (get_or t.kit.frames.items place p)) (sym at) (pass_at t.number cs t.kit.frames.items are place p c within))
+      (within, λ p. subst (IsPassOf (get_or t.kit.frames.items place p)) (sym at) (pass_at t.number cs t.kit.frames.items are place p c within))
 
   -- its looper's two passes are of it
-  pub looper_passes : (l : StageLooper) → IsLooper s st.hall l → l.number ≡ place → OfItsPasses (λ p. IsFrameOf p c) l
+  pub looper_passes : (l : StageLooper) → IsLooper s st.hall l → l.number ≡ place → OfItsPasses (λ p. IsPassOf p c) l
   looper_passes l is_l number r here =
       let cs = st.hall.choreographers.items in
       let parts = looper_parts s st.hall is.hall l is_l in
       let rest = same_Some _ _ (ap rest_in (sym parts.1) ∙ here) in
       let all = choreographer_count s cs is.hall.choreographers in
       let read : slice_get cs l.number ≡ Some c = ap (slice_get cs) number ∙ slice_get_read cs (length cs) place c refl (omega (arith, near, all)) at in
-      let frames = ap (λ (z : Rest). frame_badge_of z.frames) (sym rest) ∙ parts.2.frames c read in
-      let client = ap (λ (z : Rest). frame_badge_of z.root.pass) (sym rest) ∙ parts.2.client c read in (
+      let frames = ap (λ (z : LooperRest). frame_badge_of z.frames) (sym rest) ∙ parts.2.frames c read in
+      let client = ap (λ (z : LooperRest). frame_badge_of z.root.pass) (sym rest) ∙ parts.2.client c read in (
         (ap (λ (b : FrameBadge). b.table) frames, ap (λ (b : FrameBadge). b.constants) frames),
         (ap (λ (b : FrameBadge). b.table) client, ap (λ (b : FrameBadge). b.constants) client),
       )

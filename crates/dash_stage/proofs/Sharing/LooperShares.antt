@@ -24,7 +24,7 @@ use Rattle.dash_hall.specs.declared.hall.Hall.{Hall}
 use Rattle.dash_loopers.specs.declared.player.Parts.{Parts}
 use Rattle.dash_loopers.specs.declared.looper.StageLooper.{StageLooper}
 use Rattle.dash_hall.specs.Kits.{badge_of, badge_for, frame_badge_of, IsHall, ArePostersOf}
-use Rattle.dash_loopers.specs.Loopers.{ArePartsOf, IsLooper, is_given_up, Rest, LooperKeeps, posters_of, others_in, rest_in, IsWithin}
+use Rattle.dash_loopers.specs.Loopers.{ArePartsOf, IsLooper, is_given_up, LooperRest, LooperKeeps, posters_of, others_in, rest_in, IsWithin}
 use Rattle.dash_hall.specs.Hearing.{HasHeard, HaveHeard, AtEach, AreKept}
 use Rattle.dash_stage.specs.Sharing.{OfLoopers, AreWithin}
 use Rattle.dash_loopers.proofs.LooperLists.{map-insert, insert_removed}
@@ -126,7 +126,7 @@ with_parts P None h = absurd h
 with_parts P (Some parts) h = (parts, refl, h)
 
 -- parts of which this is the rest
-pub with_rest : (o : Option Parts) (r : Rest) → rest_in o ≡ Some r → (parts : Parts) × (o ≡ Some parts) × (rest_in (Some parts) ≡ Some r)
+pub with_rest : (o : Option Parts) (r : LooperRest) → rest_in o ≡ Some r → (parts : Parts) × (o ≡ Some parts) × (rest_in (Some parts) ≡ Some r)
 with_rest None r e = absurd cc
 with_rest (Some parts) r e = (parts, refl, e)
 
@@ -200,16 +200,16 @@ module _ (s : Script) (hall : Hall) (is_hall : IsHall s hall) (l : StageLooper) 
     parts_kept : IsSomeAnd b.parts (ArePartsOf s hall b.number)
     parts_kept =
         let p = looper_parts in
-        let r : Rest = record { frames = p.0.frames; root = p.0.root; fired = p.0.fired.items; passed = p.0.passed; awaits = p.0.awaits } in
+        let r : LooperRest = record { frames = p.0.frames; root = p.0.root; fired = p.0.fired.items; passed = p.0.passed; awaits = p.0.awaits } in
         let heard = k.rest r (ap rest_in p.1) in
         let h = heard.2 in
         let q = with_rest b.parts heard.0 heard.1 in
         let rest = same_Some _ _ q.2 in
         let are : ArePartsOf s hall l.number q.0 = record {
           others = ap (λ (o : Option Parts). map badge_of (others_in o)) (sym q.1) ∙ (others_kept ∙ (ap (λ (o : Option Parts). map badge_of (others_in o)) p.1 ∙ p.2.others));
-          frames = λ c at. ap (λ (z : Rest). frame_badge_of z.frames) rest ∙ (pass_heard_badge r.frames heard.0.frames h.frames ∙ p.2.frames c at);
-          client = λ c at. ap (λ (z : Rest). frame_badge_of z.root.pass) rest ∙ (pass_heard_badge r.root.pass heard.0.root.pass h.client ∙ p.2.client c at);
-          awaits = subst (λ (z : Rest). z.awaits ≡ true → IfAlone z.frames (z.frames.view.awaits ≡ 1)) (sym rest)
+          frames = λ c at. ap (λ (z : LooperRest). frame_badge_of z.frames) rest ∙ (pass_heard_badge r.frames heard.0.frames h.frames ∙ p.2.frames c at);
+          client = λ c at. ap (λ (z : LooperRest). frame_badge_of z.root.pass) rest ∙ (pass_heard_badge r.root.pass heard.0.root.pass h.client ∙ p.2.client c at);
+          awaits = subst (λ (z : LooperRest). z.awaits ≡ true → IfAlone z.frames (z.frames.view.awaits ≡ 1)) (sym rest)
               (λ waits key has named.
               h.frames.same.awaits ∙ p.2.awaits (sym h.awaits ∙ waits) key (sym h.frames.same.constants ∙ has) (named ∙ ap (λ (n : ℕ). Some n) h.frames.same.number));
         } in

@@ -1,7 +1,7 @@
 -- Passes of a choreographer that hear each other, thread after thread.
 use Rattle.std.proofs.Common.{◌≡◌, ℕ, ◌+◌, ◌<◌, List, length, set, get_or, refl, sym, ◌∙◌, subst, arith}
 use Rattle.frame_phases.specs.declared.entry.FrameEntry.{FrameEntry}
-use Rattle.choreographer.specs.Known.{Shared as Frames, Known as Pass, IsOf as IsFrameOf}
+use Rattle.choreographer.specs.Known.{SharedFrames, Pass, IsPassOf}
 use Rattle.dash_hall.specs.Hearing.{AtEach, AreKept, PassHasHeard, PassesHaveHeardAt, ArePassesKnown}
 use Rattle.dash_hall.proofs.PassesHearing.{pass_heard_then, passes_known_more}
 use Rattle.dash_hall.proofs.Sharing.{FirstAre, next_within, first_more, first_weaker}
@@ -14,7 +14,7 @@ use Rattle.dash_stage.proofs.Sharing.ThreadShares.{thread_then}
 use Rattle.dash_stage.proofs.Sharing.LooperShares.{looper_then}
 
 -- a pass that heard others is still one of its choreographer
-pub still_of : (p q : Pass) (c : Frames) → PassHasHeard p q → IsFrameOf p c → IsFrameOf q c
+pub still_of : (p q : Pass) (c : SharedFrames) → PassHasHeard p q → IsPassOf p c → IsPassOf q c
 still_of p q c h is = (h.same.table ∙ is.0, h.same.constants ∙ is.1)
 
 -- a thread that let a pass hear, to which its own pass at this place is known

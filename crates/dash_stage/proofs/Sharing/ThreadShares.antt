@@ -9,7 +9,7 @@ use Rattle.dash_stage.specs.Sharing.{OfThreads}
 use Rattle.dash_script.specs.declared.script.Script.{Script}
 use Rattle.run_model.specs.AskedSoFar.{tokens_in}
 use Rattle.run_model.specs.Moments.{Mode}
-use Rattle.run_model.specs.Planned.{Timed, lines_of, labels_on}
+use Rattle.run_model.specs.Planned.{TimedCommand, lines_of, labels_on}
 use Rattle.run_model.specs.Parts.{MakeCalls}
 use Rattle.dash_hall.specs.declared.hall.Hall.{Hall}
 use Rattle.dash_hall.specs.Growth.{own}
@@ -62,7 +62,7 @@ thread_kept s hall a b k is = record {
 }
 
 -- and has come as far
-pub up_to_kept : (m : Mode) (s : Script) (past : List Timed) (a b : PostingThread) → ThreadKeeps HaveHeard a b → IsUpTo m s past a → IsUpTo m s past b
+pub up_to_kept : (m : Mode) (s : Script) (past : List TimedCommand) (a b : PostingThread) → ThreadKeeps HaveHeard a b → IsUpTo m s past a → IsUpTo m s past b
 up_to_kept m s past a b k up =
     let long = k.posters.long in
     let barriers : b.barriers.items ≡ a.barriers.items = ap (λ v. v.items) k.barriers in

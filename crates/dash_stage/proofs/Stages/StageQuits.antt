@@ -15,13 +15,13 @@ use Rattle.loop_model.specs.Entries.{is_quit_done}
 use Rattle.loop_model.specs.Live.{live}
 use Rattle.loop_model.specs.Pick.{first_eligible, pick}
 use Rattle.loop_model.specs.Answers.{Setting, answer, clock, quit_place, quit_reply}
-use Rattle.loop_model.specs.Legal.{IsTimely}
+use Rattle.loop_model.specs.Legal.{CallFitsTime}
 use Rattle.loop_model.proofs.LegalLaws.{IsLegal-last}
 use Rattle.dash_script.specs.declared.script.Script.{Script}
 use Rattle.looper_run.specs.Holding.{Sender}
 use Rattle.looper_run.specs.Round.{is_ended}
 use Rattle.run_model.specs.Planned.{sender_count}
-use Rattle.run_model.specs.Control.{is_advance, is_halt, is_in_time}
+use Rattle.run_model.specs.Control.{is_advance, is_halt, is_call_in_time}
 use Rattle.dash_loopers.specs.declared.looper.StageLooper.{StageLooper}
 use Rattle.dash_loopers.specs.Loopers.{setting_for, HasNoneDue}
 use Rattle.dash_stage.specs.declared.control.Controller.{Controller}
@@ -36,7 +36,7 @@ use Rattle.dash_stage.proofs.Stages.StageWhole.{queues_count}
 -- ---- the halt
 
 -- a halt is in time
-pub halt_in_time : (es : List Entry) (c : Call) (r : Reply) → is_halt c ≡ true → is_in_time es c r ≡ true
+pub halt_in_time : (es : List Entry) (c : Call) (r : Reply) → is_halt c ≡ true → is_call_in_time es c r ≡ true
 halt_in_time es (Halt now) r h = refl
 halt_in_time es (Post p) r h = absurd cc
 halt_in_time es (Barrier now) r h = absurd cc
@@ -73,7 +73,7 @@ module _ (set : Setting) (m : ℕ) (es : List Entry) (side : set.main ≡ false)
   none_due now at = ap is_some (sym (pick_same m now es) ∙ (ap (pick (empty_base m) es) at ∙ quiet.none))
 
   -- so a call that moves no time is in time
-  in_time_by_call : (c : Call) (r : Reply) → answer set (empty_base m) es c ≡ Some r → IsTimely true (clock (empty_base m) es) c → is_advance c ≡ false → is_in_time es c r ≡ true
+  in_time_by_call : (c : Call) (r : Reply) → answer set (empty_base m) es c ≡ Some r → CallFitsTime true (clock (empty_base m) es) c → is_advance c ≡ false → is_call_in_time es c r ≡ true
   in_time_by_call (Quit safe now) r is at h = and_from _ _ (quit_done safe now r is) (ap not (none_due now at))
   in_time_by_call (Halt now) r is at h = refl
   in_time_by_call (Post p) r is at h = refl

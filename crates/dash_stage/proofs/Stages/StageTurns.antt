@@ -16,12 +16,12 @@ use Rattle.loop_model.proofs.Prefixes.{prefix_self}
 use Rattle.dash_script.specs.declared.script.Block.{Block}
 use Rattle.dash_script.specs.declared.script.Line.{Line}
 use Rattle.dash_script.specs.declared.script.Script.{Script}
-use Rattle.dash_script.specs.Reading.{rise}
+use Rattle.dash_script.specs.Reading.{times_rise}
 use Rattle.looper_run.specs.Holding.{Sender}
-use Rattle.run_model.specs.Planned.{controller, sender_count, AreFor, entries_by, token_in, Timed, lines_of, labels_on, lines_on}
+use Rattle.run_model.specs.Planned.{controller, sender_count, AreFor, entries_by, token_in, TimedCommand, lines_of, labels_on, lines_on}
 use Rattle.run_model.specs.Moments.{in_lockstep}
 use Rattle.run_model.specs.Parts.{lines_in}
-use Rattle.run_model.specs.Control.{is_in_time, is_called_in_time, are_before_quit, ends_halted, befores, before, InBlock, is_on_time, are_on_time, AreReached}
+use Rattle.run_model.specs.Control.{is_call_in_time, is_called_in_time, are_before_quit, ends_halted, befores, before, InBlock, is_on_time, are_on_time, AreReached}
 use Rattle.run_model.specs.Run.{are_in_order}
 use Rattle.run_model.proofs.RunLaws.{entries_by-append, entries_by-others, lines_on-append}
 use Rattle.dash_threads.specs.declared.thread.PostingThread.{PostingThread}
@@ -32,7 +32,7 @@ use Rattle.dash_hall.specs.Growth.{own}
 use Rattle.dash_stage.specs.Controllers.{are_advances, IsMoving}
 use Rattle.dash_threads.specs.Threads.{IsUpTo, HasCalled, ThreadKeeps}
 use Rattle.dash_loopers.specs.Loopers.{IsSoundOn, is_disposal, setting_for, is_given_up, LooperKeeps}
-use Rattle.dash_stage.specs.Stages.{IsStage, HaveRun, RunOn, LoopersGoOn}
+use Rattle.dash_stage.specs.Stages.{IsStage, HaveRunLockstep, EachRunsBlock, LoopersGoOn}
 use Rattle.dash_hall.specs.Hearing.{AtEach, HaveHeard}
 use Rattle.dash_stage.specs.Sharing.{HaveSeenTheSame}
 use Rattle.dash_stage.specs.Timeliness.{whole_on, AreSound, IsTimelyUpTo, AreTimelyUpTo, TurnsOn, EachTurnsOn, HasHaltedLast}
@@ -60,12 +60,12 @@ for_count P tokens [] (e ∷ es) h = absurd h
 for_count P tokens (x ∷ xs) [] h = absurd h
 for_count P tokens (x ∷ xs) (e ∷ es) h = ap suc (for_count P (tokens ++ token_in e.reply) xs es h.1)
 
-all_same : (time : ℕ) (ls : List Line) → AllByRecursion (λ (t : Timed). t.time ≡ time) (map (λ (l : Line). record { time = time; command = l.command }) ls)
+all_same : (time : ℕ) (ls : List Line) → AllByRecursion (λ (t : TimedCommand). t.time ≡ time) (map (λ (l : Line). record { time = time; command = l.command }) ls)
 all_same time [] = tt
 all_same time (l ∷ ls) = (refl, all_same time ls)
 
 -- a thread's lines in a block have the block's time
-lines_at : (k : ℕ) (b : Block) → AllByRecursion (λ (t : Timed). t.time ≡ b.time) (lines_in k b)
+lines_at : (k : ℕ) (b : Block) → AllByRecursion (λ (t : TimedCommand). t.time ≡ b.time) (lines_in k b)
 lines_at k b = all_same b.time (filter (λ l. l.thread == k) b.lines)
 
 -- ---- a block
@@ -117,7 +117,7 @@ module _ (s : Script) (q : ℕ) (es whole : List Entry) (front : IsPrefix es who
       let entries : length (entries_by k whole) ≡ length (entries_by k es) + length (entries_by k front.0) =
       ap (λ l. length (entries_by k l)) (sym front.1) ∙ ap length (entries_by-append k es front.0) ∙ length-append (entries_by k es) (entries_by k front.0) in
       let long : length (entries_by k front.0) ≡ length (lines_on s labels q (lines_in k b)) = omega (arith, were, are, lines, entries) in
-      subst (λ (ls : List Timed). are_on_time (map (λ l. InBlock l.time) (lines_on s labels q ls)) (befores k whole) ≡ true) more
+      subst (λ (ls : List TimedCommand). are_on_time (map (λ l. InBlock l.time) (lines_on s labels q ls)) (befores k whole) ≡ true) more
       (subst (λ (l : List Entry). are_on_time (map (λ l. InBlock l.time) (lines_on s labels q (lines_of k past ++ lines_in k b))) (befores k l) ≡ true) front.1
       (timely_block set (controller s) refl refl s labels q k b.time (lines_of k past) (lines_in k b) es front.0 legal numbered (none_behind (controller s) es whole front controlled) keeps at (lines_at k b) long h))
 
@@ -139,7 +139,7 @@ only_threads s st st' is is' same same' kept heard q d lt k known above = dite (
     subst (λ (m : ℕ). entries_by m (whole_on st'.controller q d) ≡ entries_by m (whole_on st.controller q d)) at (looper_made_none s st st' is is' same same' kept heard.long q (k - s.threads) d lt looper))
 
 -- the next block, which the threads have run at its time, where the controller has only moved the time so far
-pub block_timely : (s : Script) (st st' : Stage) (b : Block) (past rest : List Block) → past ++ b ∷ rest ≡ s.blocks → IsTrue (rise s.blocks) → IsMoving s st.controller → IsStage s st → IsStage s st' → HaveRun s past st.threads.items → HaveRun s (past ++ b ∷ []) st'.threads.items
+pub block_timely : (s : Script) (st st' : Stage) (b : Block) (past rest : List Block) → past ++ b ∷ rest ≡ s.blocks → IsTrue (times_rise s.blocks) → IsMoving s st.controller → IsStage s st → IsStage s st' → HaveRunLockstep s past st.threads.items → HaveRunLockstep s (past ++ b ∷ []) st'.threads.items
     → AtEach (LooperKeeps HaveHeard) st.loopers.items st'.loopers.items → HaveHeard st.controller.kit.posters.items st'.controller.kit.posters.items → HaveSeenTheSame st' → (AreSound s st.controller → AreAtBlock s b.time st)
     → AreTimelyUpTo s past st → AreTimelyUpTo s (past ++ b ∷ []) st'
 block_timely s st st' b past rest next rising moving is is' run run' kept heard same' at timely = record {
@@ -188,7 +188,7 @@ block_timely s st st' b past rest next rising moving is is' run run' kept heard 
 -- ---- turns of the controller that move no time
 
 -- a history stays timely by one entry of the controller that is in time
-timely_other : (s : Script) (past : List Block) (q : ℕ) (es : List Entry) (e : Entry) → is_in_time es e.call e.reply ≡ true → e.sender ≡ controller s → IsTimelyUpTo s past q es → IsTimelyUpTo s past q (es ++ e ∷ [])
+timely_other : (s : Script) (past : List Block) (q : ℕ) (es : List Entry) (e : Entry) → is_call_in_time es e.call e.reply ≡ true → e.sender ≡ controller s → IsTimelyUpTo s past q es → IsTimelyUpTo s past q (es ++ e ∷ [])
 timely_other s past q es e in_time sender timely = record {
   controls = in_time_one (controller s) es e in_time timely.controls;
   before_quit = before_quit_one s.threads (controller s) es e (controls_above s e sender) timely.before_quit;
@@ -199,7 +199,7 @@ timely_other s past q es e in_time sender timely = record {
 
 -- what the controller's turn left is in time
 abbrev pub IsInTimeBy : (Entry → Type 0) → Script → ℕ → List Entry → Type 0
-IsInTimeBy P s q es = (e : Entry) → IsSoundOn s q (es ++ e ∷ []) → P e → is_in_time es e.call e.reply ≡ true
+IsInTimeBy P s q es = (e : Entry) → IsSoundOn s q (es ++ e ∷ []) → P e → is_call_in_time es e.call e.reply ≡ true
 
 -- a history stays timely by a turn of the controller that is in time
 timely_turned : (P : Entry → Type 0) (s : Script) (past : List Block) (q : ℕ) (es whole : List Entry) → IsInTimeBy P s q es → IsSoundOn s q whole
@@ -269,6 +269,6 @@ go_on_kept R ls ls' kept on k d lt =
     ap is_given_up (kept.each k d within).last ∙ on k d within
 
 -- what a thread does with a block, where others are heard after it
-pub continues_kept : (s : Script) (b : Block) (ts ms us : List PostingThread) → length ms ≡ length ts → RunOn s b ts ms → AtEach (ThreadKeeps HaveHeard) ms us → RunOn s b ts us
+pub continues_kept : (s : Script) (b : Block) (ts ms us : List PostingThread) → length ms ≡ length ts → EachRunsBlock s b ts ms → AtEach (ThreadKeeps HaveHeard) ms us → EachRunsBlock s b ts us
 continues_kept s b ts ms us long on kept k d lt past rest whole up =
     up_to_kept in_lockstep s (past ++ lines_in (slice_index_or ts k d).number b) (slice_index_or ms k d) (slice_index_or us k d) (kept.each k d (subst (λ (n : ℕ). k < n) (sym long) lt)) (on k d lt past rest whole up)

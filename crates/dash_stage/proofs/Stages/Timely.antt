@@ -20,8 +20,8 @@ use Rattle.loop_model.proofs.Growing.{entry_by_entry}
 use Rattle.loop_model.proofs.LegalLaws.{IsLegal-front}
 use Rattle.loop_model.proofs.NumberLaws.{AreNumbered-front, AreNumbered-last}
 use Rattle.loop_model.proofs.Sorting.{AllByRecursion-filter, AllByRecursion-weaker}
-use Rattle.run_model.specs.Planned.{entries_by, Timed, lines_on}
-use Rattle.run_model.specs.Control.{is_quit, is_in_time, each_behind, is_called_in_time, are_before_quit, ends_halted, Before, before, befores, befores_from}
+use Rattle.run_model.specs.Planned.{entries_by, TimedCommand, lines_on}
+use Rattle.run_model.specs.Control.{is_quit, is_call_in_time, each_behind, is_called_in_time, are_before_quit, ends_halted, Before, before, befores, befores_from}
 use Rattle.run_model.specs.Control.{Timing, At, InBlock, is_on_time, are_on_time}
 use Rattle.run_model.specs.Parts.{comes_in_time, has_quit_by, comes_before_quit, befores_after}
 use Rattle.run_model.proofs.ControlLaws.{each_behind-snoc, each_behind-append}
@@ -128,7 +128,7 @@ pub timely_others : (k : ℕ) (ts : List Timing) (es more : List Entry) → entr
 timely_others k ts es more none h = ap (are_on_time ts) (befores_of_others k es more none) ∙ h
 
 -- lines of one block are on time where what stood before each call is
-pub on_time_at : (time : ℕ) (lines : List Timed) (bs : List Before) → AllByRecursion (λ l. l.time ≡ time) lines → AllByRecursion (λ b. is_on_time (InBlock time) b ≡ true) bs → length lines ≡ length bs
+pub on_time_at : (time : ℕ) (lines : List TimedCommand) (bs : List Before) → AllByRecursion (λ l. l.time ≡ time) lines → AllByRecursion (λ b. is_on_time (InBlock time) b ≡ true) bs → length lines ≡ length bs
     → are_on_time (map (λ l. InBlock l.time) lines) bs ≡ true
 on_time_at time [] [] at all long = refl
 on_time_at time [] (b ∷ bs) at all long = absurd (omega (arith, long))
@@ -139,14 +139,14 @@ on_time_at time (l ∷ lines) (b ∷ bs) at all long =
 -- ---- the controller's calls
 
 -- one more entry that is in time
-pub in_time_one : (n : ℕ) (es : List Entry) (e : Entry) → is_in_time es e.call e.reply ≡ true → is_called_in_time n es ≡ true → is_called_in_time n (es ++ e ∷ []) ≡ true
+pub in_time_one : (n : ℕ) (es : List Entry) (e : Entry) → is_call_in_time es e.call e.reply ≡ true → is_called_in_time n es ≡ true → is_called_in_time n (es ++ e ∷ []) ≡ true
 unfolding is_called_in_time
 in_time_one n es e one h = each_behind-snoc (comes_in_time n) [] es e h (or_right _ _ one)
 
 -- entries of others
 in_time_others : (n : ℕ) (past es : List Entry) → AreOfOthers n es → each_behind (comes_in_time n) past es ≡ true
 in_time_others n past [] others = refl
-in_time_others n past (e ∷ es) others = and_from _ _ (ap (λ t. not t || is_in_time past e.call e.reply) others.0) (in_time_others n (past ++ e ∷ []) es others.1)
+in_time_others n past (e ∷ es) others = and_from _ _ (ap (λ t. not t || is_call_in_time past e.call e.reply) others.0) (in_time_others n (past ++ e ∷ []) es others.1)
 
 -- change nothing of it
 pub in_time_more : (n : ℕ) (es more : List Entry) → entries_by n more ≡ [] → is_called_in_time n (es ++ more) ≡ is_called_in_time n es
@@ -305,12 +305,12 @@ module _ (set : Setting) (n : ℕ) (last : n + 1 ≡ set.senders) where
         (subst (λ x. AllByRecursion (λ b. b ≡ x) (befores_after k (es ++ e ∷ []) more)) same (befores_same k (es ++ e ∷ []) more legal_on numbered_on (entries_by-others n more others.1) keeps.1))
 
     -- a thread that has made the calls of one block more, while nothing disposed of the queue, is on time as before
-    pub timely_block : (s : Script) (labels : List ℕ) (q k time : ℕ) (past lines : List Timed) (es more : List Entry) → IsLegal set (empty_base set.senders) (es ++ more)
+    pub timely_block : (s : Script) (labels : List ℕ) (q k time : ℕ) (past lines : List TimedCommand) (es more : List Entry) → IsLegal set (empty_base set.senders) (es ++ more)
         → AreNumbered set (empty_base set.senders) (es ++ more) → entries_by n more ≡ [] → AllByRecursion (λ e. is_disposed e.reply ≡ false) more → is_on_time (InBlock time) (before es) ≡ true
         → AllByRecursion (λ l. l.time ≡ time) lines → length (entries_by k more) ≡ length (lines_on s labels q lines) → are_on_time (map (λ l. InBlock l.time) (lines_on s labels q past)) (befores k es) ≡ true
         → are_on_time (map (λ l. InBlock l.time) (lines_on s labels q (past ++ lines))) (befores k (es ++ more)) ≡ true
     timely_block s labels q k time past lines es more legal numbered none keeps at same long h =
-        let timing : Timed → Timing = λ l. InBlock l.time in
+        let timing : TimedCommand → Timing = λ l. InBlock l.time in
         let before_them = map timing (lines_on s labels q past) in
         let theirs = map timing (lines_on s labels q lines) in
         let split : map timing (lines_on s labels q (past ++ lines)) ≡ before_them ++ theirs = ap (map timing) (lines_on-append s labels q past lines) ∙ map-append timing (lines_on s labels q past) (lines_on s labels q lines) in

@@ -14,7 +14,7 @@ use Rattle.dash_stage.specs.declared.stage.Stage.{Stage}
 use Rattle.dash_stage.specs.Playing.{IsInStep, AreStuck}
 use Rattle.dash_stage.specs.Sharing.{HaveSeenTheSame, HaveShared}
 use Rattle.dash_stage.specs.Stages.{IsStage, IsStageIn}
-use Rattle.dash_stage.specs.Timeliness.{AreBy, AreRested, AreDue, TurnsOn, EachTurnsOn, MovesTo, HaveCome}
+use Rattle.dash_stage.specs.Timeliness.{AreBy, AreRested, AreDue, TurnsOn, EachTurnsOn, MovesTo, HaveReachedTime}
 
 -- from a stage in which all have seen the same, over turns of the controller that made such entries, to one in which all have seen the same again, where nobody
 -- else has called anything
@@ -50,7 +50,7 @@ pub record MovedOn (s : Script) (time : ℕ) (st : Stage) (c : Controller) (st' 
   pub step : IsInStep s st
   pub rested : AreRested s st
   pub due : AreDue s time st
-  pub come : drained ≡ true → HaveCome s time c
+  pub come : drained ≡ true → HaveReachedTime s time c
   pub stuck : drained ≡ false → AreStuck s time s.loopers c
 
 -- turns of one kind are turns of a wider one

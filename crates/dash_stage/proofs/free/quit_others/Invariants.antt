@@ -1,5 +1,5 @@
 use Rattle.std.proofs.Common.{◌≡◌, ◌≤◌, true}
-use Rattle.run_model.specs.Moments.{Mode, IsMoment}
+use Rattle.run_model.specs.Moments.{Mode, IsMomentOf}
 use Rattle.dash_threads.specs.Threads.{AreByClock}
 use Rattle.dash_stage.specs.BehindThreads.{SeesMore}
 use Rattle.dash_stage.specs.Controllers.{IsControllerIn, IsQuittingBy}
@@ -13,5 +13,5 @@ invariant-loop-looper g l = record {
   quitting : l.done ≡ true → IsQuittingBy l.script l.looper l.controller;
   bells : RingsNoLess l.fn.controller l.controller;
   more : l.done ≡ true → SeesMore l.initial.controller l.controller;
-  clocked : l.done ≡ true → (m : Mode) → IsMoment m l.now → AreByClock m l.initial.controller.kit.posters.items → AreByClock m l.controller.kit.posters.items;
+  clocked : l.done ≡ true → (m : Mode) → IsMomentOf m l.now → AreByClock m l.initial.controller.kit.posters.items → AreByClock m l.controller.kit.posters.items;
 }

@@ -2,7 +2,7 @@ use Rattle.std.proofs.Common.{◌<◌, Bool, Option, Some, None, length, subst, 
 use Rattle.std.specs.Prelude.{slice_index_or}
 use Rattle.std.proofs.lemmas.List.{get_or_default}
 use Rattle.dash_loopers.specs.declared.looper.StageLooper.{StageLooper}
-use Rattle.dash_loopers.specs.Looped.{LoopsUpTo, HasLooped}
+use Rattle.dash_loopers.specs.Looped.{LoopsUntilStopped, HasLooped}
 use Rattle.run_model.specs.Moments.{Mode}
 use Rattle.run_model.specs.ByClock.{in_free_mode}
 use Rattle.dash_stage.specs.ByClock.{LoopsFor}
@@ -23,5 +23,5 @@ returns g c =
     record {
       loopers = each_set (HasLooped m s hall) ls it c.run_by_clock.new.self is_it some (loops_still m s hall ls c.requires.loopers) ran.looped;
       looped = λ none. one_set (LoopsFor m s hall (Some s.end) None) ls it c.run_by_clock.new.self is_it c.requires.one
-          (record { goes = ran.looped; loops = subst (λ (o : Option Bool). LoopsUpTo m s (Some s.end) it c.run_by_clock.new.self o) none ran.rounds });
+          (record { goes = ran.looped; loops = subst (λ (o : Option Bool). LoopsUntilStopped m s (Some s.end) it c.run_by_clock.new.self o) none ran.rounds });
     }

@@ -7,7 +7,7 @@ use Rattle.dash_hall.specs.Hearing.{HasHeardAll}
 use Rattle.dash_stage.specs.Sharing.{OfLoopers, HaveHeardNothing}
 use Rattle.dash_loopers.specs.Loopers.{posters_of, WaitsForNothing, OfItsPasses}
 use Rattle.run_model.specs.Loopers.{first_looper}
-use Rattle.dash_loopers.specs.Played.{HasCome}
+use Rattle.dash_loopers.specs.Played.{StandsBetweenRounds}
 use Rattle.dash_stage.specs.Timeliness.{WaitForNothing}
 use Rattle.dash_stage.specs.Playing.{HaveBegun}
 use Rattle.dash_stage.proofs.Sharing.Casting.{looper_made, first_more}
@@ -61,6 +61,6 @@ loop-number-preserved c =
       first = made.2;
       unseen = subst (OfLoopers AreUnseen) (sym grown) (first_more (λ k (z : StageLooper). AreUnseen (posters_of z)) at.loopers.items one was.unseen unseen);
       waits = subst WaitForNothing (sym grown) (first_more (λ k (z : StageLooper). WaitsForNothing z.last) at.loopers.items one was.waits new.waits);
-      begun = subst (HaveBegun s) (sym grown) (first_more (λ k (z : StageLooper). HasCome s z (first_looper s)) at.loopers.items one was.begun new.begun);
+      begun = subst (HaveBegun s) (sym grown) (first_more (λ k (z : StageLooper). StandsBetweenRounds s z (first_looper s)) at.loopers.items one was.begun new.begun);
       unheard = subst HaveHeardNothing (sym grown) (first_more (λ k (z : StageLooper). OfItsPasses (HasHeardAll []) z) at.loopers.items one was.unheard new.unheard);
     }

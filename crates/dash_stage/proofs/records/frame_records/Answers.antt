@@ -2,7 +2,7 @@ use Rattle.std.proofs.Common.{rules, ◌≡◌, ◌+◌, ◌<◌, List, [], ◌�
 use Rattle.std.specs.Vec.Iter.{into_iter_items}
 use Rattle.std.proofs.lemmas.List.{nil_from_length, length-map}
 use Rattle.std.proofs.lemmas.List.FromFn.{length-map-range_with_len}
-use Rattle.choreographer.specs.Known.{Shared as Frames}
+use Rattle.choreographer.specs.Known.{SharedFrames}
 use Rattle.frame_phases.specs.declared.entry.FrameRecord.{FrameRecord}
 use Rattle.shared_queue.proofs.Gathers.{regrouped}
 use Rattle.dash_hall.specs.Kits.{frame_key, frame_constants}
@@ -27,7 +27,7 @@ loop-choreographer-init c =
       looper = refl;
       count = ap length none;
       sealed = c.requires.sealed;
-      ended = subst (λ (l : List Frames). HaveEnded s 0 l c.args.kits.now.items c.new-records.result.items c.args.kits.now.items) (sym items.0)
+      ended = subst (λ (l : List SharedFrames). HaveEnded s 0 l c.args.kits.now.items c.new-records.result.items c.args.kits.now.items) (sym items.0)
           (subst (λ (l : List FrameRecord). HaveEnded s 0 cs c.args.kits.now.items l c.args.kits.now.items) (sym none) (ended_none s cs c.args.kits.now.items marks));
     }
 
@@ -47,7 +47,7 @@ frame_record-requires c =
       constants = one.0;
       kits = record {
         count = at.invariant.ended.count ∙ c.requires.count;
-        begin = next_passes s at.looper x _ at.kits.items (subst (λ (l : List Frames). HaveAllPasses (given_all s at.looper l) at.kits.items) steps at.invariant.ended.marks);
+        begin = next_passes s at.looper x _ at.kits.items (subst (λ (l : List SharedFrames). HaveAllPasses (given_all s at.looper l) at.kits.items) steps at.invariant.ended.marks);
       };
       sealed = sealed_next at.kits.items at.sealed.items at.invariant.sealed have c.remove-parts.result c.remove-parts.ensures.value;
     }
@@ -102,7 +102,7 @@ loop-choreographer-preserved c =
           (next_given s at.looper x rest (into_iter_items at.choreographer-iterator) c.args.kits.now.items at.kits.items at.records.items steps few senders at.invariant.ended)
           s at.looper x c.frame_record.new.kits.items few (at.invariant.ended.count ∙ senders) c.in_ok-record.ensures.kits);
       ended = ends_more s at.looper x rest c.args.kits.now.items at.kits.items c.frame_record.new.kits.items at.records.items _ r count few (omega (arith, senders)) c.in_ok-record.ensures.record.0 c.in_ok-record.ensures.record.1 c.in_ok-record.ensures.theirs.parted c.in_ok-record.ensures.theirs.own c.in_ok-record.ensures.kits items
-          (subst (λ (l : List Frames). HaveEnded s at.looper l c.args.kits.now.items at.records.items at.kits.items) steps at.invariant.ended);
+          (subst (λ (l : List SharedFrames). HaveEnded s at.looper l c.args.kits.now.items at.records.items at.kits.items) steps at.invariant.ended);
     }
 
 pub returns-clause-frames : goal.returns-clause-frames

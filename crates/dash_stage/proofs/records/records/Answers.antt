@@ -1,6 +1,6 @@
 use Rattle.std.proofs.Common.{rules, ◌≡◌, ◌+◌, ◌<◌, List, length, get_or, subst, ◌∙◌, arith}
 use mathlib.Core.List.{IsPrefix}
-use Rattle.choreographer.specs.Known.{Known as Pass}
+use Rattle.choreographer.specs.Known.{Pass}
 use Rattle.frame_phases.specs.declared.entry.FrameRecord.{FrameRecord}
 use Rattle.dash_stage.proofs.Ends.Carried.{numbered_count}
 use Rattle.dash_stage.proofs.Ends.HallFrames.{frames_kept}

@@ -1,6 +1,6 @@
 use Rattle.std.proofs.Common.{◌∙◌, sym, subst}
 use mathlib.Core.List.{IsPrefix}
-use Rattle.choreographer.specs.Known.{Known as Pass, IsOf as IsFrameOf, HasHeardWho}
+use Rattle.choreographer.specs.Known.{Pass, IsPassOf, HasHeardWho}
 use Rattle.dash_hall.specs.Hearing.{AtEach, PassHasHeard, ArePassesReady, ArePassesKnown}
 use Rattle.dash_hall.proofs.PassesHearing.{pass_heard_then, passes_known_more}
 use Rattle.dash_hall.proofs.Sharing.{each_then}
@@ -31,10 +31,10 @@ pub hear_passes-requires-clause-parts : goal.hear_passes-requires-clause-parts
 hear_passes-requires-clause-parts c = parts_there c.args.looper.now.parts c.tell_passes.new.self.parts c.tell_passes.ensures.kept.1 c.requires.parts
 
 pub hear_passes-requires-clause-passes : goal.hear_passes-requires-clause-passes
-hear_passes-requires-clause-passes c = looper_told (λ p. IsFrameOf p c.args.choreographer.now) c.args.looper.now c.tell_passes.new.self c.tell_passes.ensures.kept c.requires.looper
+hear_passes-requires-clause-passes c = looper_told (λ p. IsPassOf p c.args.choreographer.now) c.args.looper.now c.tell_passes.new.self c.tell_passes.ensures.kept c.requires.looper
 
 pub hear_passes-requires-clause-other : goal.hear_passes-requires-clause-other
-hear_passes-requires-clause-other c = subst (λ (p : Pass). IsFrameOf p c.args.choreographer.now) (sym c.threads_hear_passes.ensures.other)
+hear_passes-requires-clause-other c = subst (λ (p : Pass). IsPassOf p c.args.choreographer.now) (sym c.threads_hear_passes.ensures.other)
     (still_of c.args.pass.now c.tell_passes.new.other c.args.choreographer.now
     (pass_heard_then c.args.pass.now c.threads_tell_passes.new.other c.tell_passes.new.other c.threads_tell_passes.ensures.heard c.tell_passes.ensures.heard) c.requires.pass)
 

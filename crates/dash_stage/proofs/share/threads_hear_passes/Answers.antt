@@ -1,5 +1,5 @@
 use Rattle.std.proofs.Common.{◌<◌, ◌≤◌, length, refl, sym, subst, arith, slice_index_or}
-use Rattle.choreographer.specs.Known.{Known as Pass, IsOf as IsFrameOf}
+use Rattle.choreographer.specs.Known.{Pass, IsPassOf}
 use Rattle.dash_hall.specs.Hearing.{ArePassesReady, ArePassesKnown}
 use Rattle.dash_hall.proofs.Sharing.{first_all}
 use Rattle.dash_threads.specs.Threads.{HearsPass}
@@ -13,7 +13,7 @@ hear_pass-requires-clause-ready c =
     next_of c.args.threads.now at.threads at.k (HearsPass c.args.place c.args.other.now.view.heard) (ArePassesReady c.args.place c.args.choreographer.now) c.requires.at.ready at.invariant.0 c.index-threads-k.result lt
 
 pub hear_pass-requires-clause-other : goal.hear_pass-requires-clause-other
-hear_pass-requires-clause-other c = subst (λ (p : Pass). IsFrameOf p c.args.choreographer.now) (sym c.loop-k.invariant.1) c.requires.at.pass
+hear_pass-requires-clause-other c = subst (λ (p : Pass). IsPassOf p c.args.choreographer.now) (sym c.loop-k.invariant.1) c.requires.at.pass
 
 pub hear_pass-requires-clause-known : goal.hear_pass-requires-clause-known
 hear_pass-requires-clause-known c =

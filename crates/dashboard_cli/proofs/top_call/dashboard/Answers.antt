@@ -1,4 +1,4 @@
--- A command whose input is good stops for a fault or for want of memory alone, and none reads more than it may.
+-- A command whose input is good stops for a fault or when out of memory alone, and none reads more than it may.
 use Rattle.std.proofs.Common.{rules, ◌≡◌, ◌⊎◌, ◌∙◌, ap, sym, subst}
 use Rattle.dashboard_cli.specs.declared.status.Status.{Status}
 use Rattle.dashboard_cli.specs.declared.status.Status.TheVariants as status

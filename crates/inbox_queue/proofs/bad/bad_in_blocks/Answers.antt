@@ -2,7 +2,7 @@ use Rattle.std.proofs.Common.{◌+◌, ◌∙◌, List, ap, sym, length, map, ar
 use Rattle.std.specs.List.{position_from}
 use Rattle.dash_script.specs.declared.script.Block.{Block}
 use Rattle.dash_script.specs.declared.script.Line.{Line}
-use Rattle.dash_script.specs.Text.{line_of}
+use Rattle.dash_script.specs.Text.{line_statement}
 use Rattle.inbox_queue.specs.Bad.{is_bad}
 use Rattle.inbox_queue.proofs.Bads.{block_more, block_count, block_fits, blocks_found, is_none_of}
 use Rattle.inbox_queue.proofs.bad.bad_in_blocks.Goals as goal
@@ -26,7 +26,7 @@ pub returns-then-is_some : goal.returns-then-is_some
 returns-then-is_some c =
     blocks_found (c.args.before + 1) (c.loop-block.block-index + 1) c.args.blocks.now c.bad_in_lines-found.result
     (block_more c.args.before (c.loop-block.before + 1) c.loop-block.block-index c.args.blocks.now c.block-item.result c.bad_in_lines-found.result c.loop-block-test.true c.loop-block.invariant.1 (ap (λ n. n + 1) c.loop-block.invariant.0)
-    (c.bad_in_lines-found.ensures ∙ ap (λ (ls : List Line). position_from is_bad (c.loop-block.before + 1 + 1) (map line_of ls)) (c.as_slice.ensures ∙ ap (λ (b : Block). b.lines) c.block-item.is)))
+    (c.bad_in_lines-found.ensures ∙ ap (λ (ls : List Line). position_from is_bad (c.loop-block.before + 1 + 1) (map line_statement ls)) (c.as_slice.ensures ∙ ap (λ (b : Block). b.lines) c.block-item.is)))
     (sym c.if-is_some.ensures)
 
 pub overflow_add-before-in-loop-block : goal.overflow_add-before-in-loop-block
@@ -44,7 +44,7 @@ loop-block-preserved c = (
       let was = c.loop-block.invariant.0 in
       omega (arith, count, own, was)),
   sym (block_more c.args.before (c.loop-block.before + 1) c.loop-block.block-index c.args.blocks.now c.block-item.result c.bad_in_lines-found.result c.loop-block-test.true c.loop-block.invariant.1 (ap (λ n. n + 1) c.loop-block.invariant.0)
-      (c.bad_in_lines-found.ensures ∙ ap (λ (ls : List Line). position_from is_bad (c.loop-block.before + 1 + 1) (map line_of ls)) (c.as_slice.ensures ∙ ap (λ (b : Block). b.lines) c.block-item.is)))
+      (c.bad_in_lines-found.ensures ∙ ap (λ (ls : List Line). position_from is_bad (c.loop-block.before + 1 + 1) (map line_statement ls)) (c.as_slice.ensures ∙ ap (λ (b : Block). b.lines) c.block-item.is)))
       ∙ is_none_of c.bad_in_lines-found.result (sym c.if-is_some.ensures),
   (let lt = c.loop-block-test.true in omega (arith, lt)),
 )

@@ -1,13 +1,13 @@
 use Rattle.std.proofs.Common.{◌≡◌}
-use Rattle.choreographer.specs.Known.{IsOf}
+use Rattle.choreographer.specs.Known.{IsPassOf}
 use Rattle.choreographer.specs.Ends.{HasHandedOut, entries_in}
 use Rattle.loop_tests.proofs.choreographers.seal_some.Given as goal
 
 abbrev pub invariant-loop : goal.invariant-loop
 invariant-loop g l = record {
-  first : IsOf l.first l.c;
+  first : IsPassOf l.first l.c;
   first_number : l.first.number ≡ l.initial.first.number;
-  last : IsOf l.last l.c;
+  last : IsPassOf l.last l.c;
   last_number : l.last.number ≡ l.initial.last.number;
   parts : HasHandedOut l.last (entries_in l.parts.items);
 }

@@ -1,6 +1,6 @@
 use Rattle.std.proofs.Common.{◌∙◌, List, sym, subst}
 use Rattle.loop_model.specs.declared.journal.Act.{Act}
-use Rattle.looper_run.specs.Acts.{IsIdle, GrowsBy}
+use Rattle.looper_run.specs.Acts.{IsIdleAct, GrowsBy}
 use Rattle.looper_run.proofs.Idling.{grows_idle, carries_idle, carries_then, carries_still}
 use Rattle.looper_run.proofs.sources.run_turns.Goals as goal
 
@@ -24,7 +24,7 @@ returns-in_err-tell g c =
     record {
       tells = record {
         looper = c.tell.ensures.looper ∙ here.looper;
-        grows = subst (λ (acts : List Act). GrowsBy IsIdle c.args.journal.now.acts acts) (sym same) here.grows;
+        grows = subst (λ (acts : List Act). GrowsBy IsIdleAct c.args.journal.now.acts acts) (sym same) here.grows;
         carries = carries_still D.Serves D.origin D.nudges D.asked D.Awaits D.Meets c.args.d.now c.loop-turn.d c.idle.new.self c.args.journal.now.acts c.loop-turn.journal.acts c.tell.new.journal.acts here.carries c.idle.ensures.carries same;
       };
     }

@@ -1,7 +1,7 @@
-use Rattle.looper_run.specs.Acts.{IsIdle, GrowsBy}
+use Rattle.looper_run.specs.Acts.{IsIdleAct, GrowsBy}
 use Rattle.looper_run.specs.Carried.{TellsOn}
 use Rattle.looper_run.proofs.sources.run_turns.Given as goal
 
 abbrev pub invariant-loop-turn : goal.invariant-loop-turn
 invariant-loop-turn g l =
-    TellsOn (GrowsBy IsIdle) g.D.Dispatcher.Serves g.D.Dispatcher.origin g.D.Dispatcher.nudges g.D.Dispatcher.asked g.D.Dispatcher.Awaits g.D.Dispatcher.Meets l.initial.d l.d l.initial.journal l.journal
+    TellsOn (GrowsBy IsIdleAct) g.D.Dispatcher.Serves g.D.Dispatcher.origin g.D.Dispatcher.nudges g.D.Dispatcher.asked g.D.Dispatcher.Awaits g.D.Dispatcher.Meets l.initial.d l.d l.initial.journal l.journal

@@ -3,11 +3,11 @@ use Rattle.serde_json.specs.Data.{put, string}
 use Rattle.serde_json.specs.View.{members_view}
 use Rattle.run_picture.specs.Events.{count, slice}
 use Rattle.run_picture.specs.Rows.{saturated}
-use Rattle.run_flows.specs.Events.{placed}
+use Rattle.run_flows.specs.Events.{placed_slice}
 use Rattle.run_flows.proofs.event.placed.Goals as goal
 
 pub returns : goal.returns
-unfolding placed
+unfolding placed_slice
 returns c =
     c.in_ok-put_slice.ensures ∙ ap (slice 1000)
     (c.in_ok-put_number-3.ensures ∙ ap (λ n. put (codes "ts") (count n) (members_view c.put_number-2.new.members.entries)) c.micros.ensures

@@ -2,7 +2,7 @@ use Rattle.std.proofs.Common.{◌≡◌, ◌≤◌, ◌∙◌, length, subst, ap
 use Rattle.std.specs.Prelude.{IsPermutation}
 use Rattle.std.specs.List.{flat_map, filter, AllByRecursion}
 use Rattle.run_picture.specs.Drawn.{AreElements}
-use Rattle.run_picture.specs.Groups.{KeepOrder, Shows, marks_of}
+use Rattle.run_picture.specs.Groups.{KeepOrder, ShowsTime, marks_of}
 use Rattle.run_picture.specs.View.{is_seen, seen_marks}
 use Rattle.std.specs.Prelude.{None}
 use Rattle.run_picture.proofs.svg.svg_text.Goals as goal
@@ -24,7 +24,7 @@ returns c =
       ordered = subst (λ ms. KeepOrder c.scale_of-scale.result ms (flat_map marks_of c.in_ok-groups.groups.items)) seen c.in_ok-groups.ensures.ordered;
       wide = c.scale_of-scale.ensures.wide;
       edges = c.scale_of-scale.ensures.edges;
-      shown = subst (AllByRecursion (Shows c.scale_of-scale.result)) (c.deref-2.ensures.value ∙ seen) c.scale_of-scale.ensures.shown;
+      shown = subst (AllByRecursion (ShowsTime c.scale_of-scale.result)) (c.deref-2.ensures.value ∙ seen) c.scale_of-scale.ensures.shown;
       fine = subst (λ ms. length ms ≤ 4000 → c.scale_of-scale.result.step ≡ 1) (c.deref-2.ensures.value ∙ seen) c.scale_of-scale.ensures.fine;
       bare = c.into_bytes-out.ensures;
       elements = subst (λ out. AreElements c.most_of-most.result None c.in_ok-groups.groups.items out c.push_elements.new.out.items) c.in_ok-extend_from_slice.ensures.items

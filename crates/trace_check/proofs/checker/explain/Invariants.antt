@@ -2,14 +2,14 @@ use Rattle.std.proofs.Common.{◌≡◌, ◌≤◌, ℕ, take}
 use Rattle.std.specs.Prelude.{◌==◌, fold, count_by}
 use Rattle.loop_model.specs.Base.{empty_base}
 use Rattle.loop_model.specs.Listed.{next_base}
-use Rattle.trace_check.specs.Checking.{base_by, made_in}
+use Rattle.trace_check.specs.Checking.{past_base, made_in}
 use Rattle.trace_check.specs.Good.{IsGood}
 use Rattle.trace_check.specs.Ranks.{AreIndexed, AreRanked}
 use Rattle.trace_check.proofs.checker.explain.Given as goal
 
 abbrev pub invariant-loop-place : goal.invariant-loop-place
 invariant-loop-place l = record {
-  base : base_by l.past ≡ fold next_base (empty_base 0) (take l.place l.queue.entries);
+  base : past_base l.past ≡ fold next_base (empty_base 0) (take l.place l.queue.entries);
   length : l.past.length ≡ l.place;
   posts : l.past.counters.accepted ≤ l.place;
   barriers : l.past.counters.barriers ≤ l.place;

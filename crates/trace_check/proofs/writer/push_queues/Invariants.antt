@@ -1,8 +1,8 @@
 use Rattle.std.proofs.Common.{◌≡◌, ◌++◌, take}
 use Rattle.std.specs.Prelude.{string_bytes}
 use Rattle.std.specs.List.{flat_map}
-use Rattle.trace_check.specs.Text.{line_text, queue_lines}
+use Rattle.trace_check.specs.Text.{trace_line_text, queue_lines}
 use Rattle.trace_check.proofs.writer.push_queues.Given as goal
 
 abbrev pub invariant-loop-queue : goal.invariant-loop-queue
-invariant-loop-queue l = string_bytes l.out ≡ string_bytes l.fn.out ++ flat_map line_text (flat_map queue_lines (take l.queue-index l.queues))
+invariant-loop-queue l = string_bytes l.out ≡ string_bytes l.fn.out ++ flat_map trace_line_text (flat_map queue_lines (take l.queue-index l.queues))

@@ -2,8 +2,8 @@ use Rattle.std.proofs.Common.{◌≡◌, ◌+◌, ◌<◌, ◌≤◌, List, [], 
 use Rattle.std.specs.Prelude.{string_bytes}
 use Rattle.frame_phases.specs.State.{posted, next_callback}
 use Rattle.value_animator.specs.declared.runner.Runner.{Runner}
-use Rattle.value_animator.specs.Framing.{IsReady, after_frame}
-use Rattle.value_animator.specs.Run.{frame_time, frame_times, all_ended}
+use Rattle.value_animator.specs.Framing.{IsFrameReady, after_frame}
+use Rattle.value_animator.specs.Run.{nth_frame_time, frame_times, all_ended}
 use Rattle.value_animator.specs.Runners.{runner_at}
 use Rattle.value_animator.proofs.Counting.{end_comes}
 use Rattle.value_animator.proofs.Going.{Goes, goes_start, goes_more, goes_end, started, some_there, same_pulse, front_back}
@@ -20,20 +20,20 @@ loop-number-init c =
 
 pub unreachable-requires : goal.unreachable-requires
 unreachable-requires c =
-    c.in_default.not-Some (frame_time c.args.values.now.period c.loop-number._number) (c.asked.ensures.asked ∙ c.loop-number.invariant.ready.asked)
+    c.in_default.not-Some (nth_frame_time c.args.values.now.period c.loop-number._number) (c.asked.ensures.asked ∙ c.loop-number.invariant.ready.asked)
 
 pub run_frame-requires : goal.run_frame-requires
 run_frame-requires c =
     let k = c.loop-number._number in
-    let at = same_pulse c.asked.result c.in-Some.pulse (frame_time c.args.values.now.period k) c.in-Some.is (c.asked.ensures.asked ∙ c.loop-number.invariant.ready.asked) in
-    subst (λ q. IsReady c.loop-number.frames q) (sym at) c.loop-number.invariant.ready
+    let at = same_pulse c.asked.result c.in-Some.pulse (nth_frame_time c.args.values.now.period k) c.in-Some.is (c.asked.ensures.asked ∙ c.loop-number.invariant.ready.asked) in
+    subst (λ q. IsFrameReady c.loop-number.frames q) (sym at) c.loop-number.invariant.ready
 
 pub returns-then-branch : goal.returns-then-branch
 returns-then-branch c =
     let v = c.args.values.now in
     let k = c.loop-number._number in
     let inv = c.loop-number.invariant in
-    let at = same_pulse c.asked.result c.in-Some.pulse (frame_time v.period k) c.in-Some.is (c.asked.ensures.asked ∙ inv.ready.asked) in
+    let at = same_pulse c.asked.result c.in-Some.pulse (nth_frame_time v.period k) c.in-Some.is (c.asked.ensures.asked ∙ inv.ready.asked) in
     let given = c.deref_mut.ensures.value ∙ inv.standing in
     goes_end v k c.in-Some.pulse (string_bytes c.args.out.now) (string_bytes c.loop-number.out) (string_bytes c.run_frame.new.out) c.loop-number.frames c.run_frame.new.frames
     c.loop-number.things.items c.run_frame.new.things inv at
@@ -48,7 +48,7 @@ loop-number-preserved c =
     let k = c.loop-number._number in
     let inv = c.loop-number.invariant in
     let few : k ≤ 60000 = let lt : k < 60001 = c.loop-number-test.true in omega arith in
-    let at = same_pulse c.asked.result c.in-Some.pulse (frame_time v.period k) c.in-Some.is (c.asked.ensures.asked ∙ inv.ready.asked) in
+    let at = same_pulse c.asked.result c.in-Some.pulse (nth_frame_time v.period k) c.in-Some.is (c.asked.ensures.asked ∙ inv.ready.asked) in
     let given = c.deref_mut.ensures.value ∙ inv.standing in
     let next = goes_more v k c.in-Some.pulse (string_bytes c.args.out.now) (string_bytes c.loop-number.out) (string_bytes c.run_frame.new.out) c.loop-number.frames c.run_frame.new.frames
     c.loop-number.things.items c.run_frame.new.things c.requires few inv at

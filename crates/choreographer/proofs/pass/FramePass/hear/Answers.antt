@@ -1,7 +1,7 @@
 use Rattle.std.proofs.Common.{rules, ◌≡◌, false, subst}
 use mathlib.Core.List.{IsPrefix}
 use Rattle.choreographer.specs.Plays.{Sat}
-use Rattle.choreographer.specs.Known.{Known, HasHeardWho, HasOnlyHeard}
+use Rattle.choreographer.specs.Known.{Pass, HasHeardWho, HasOnlyHeard}
 use Rattle.choreographer.proofs.Turns.{notes, joins_in, learns}
 use Rattle.choreographer.proofs.Heard.{knows_own, entries_begin}
 use Rattle.choreographer.proofs.Hearing.{heard_begins, still_idle, only_heard}
@@ -27,7 +27,7 @@ invariant_of-self c =
 pub returns-clause-begins : goal.returns-clause-begins
 returns-clause-begins c =
     let l = c.load.ensures.2 in
-    subst (λ (z : Known × Known). IsPrefix z.0.view.heard c.load.new.seat.me.0.heard × IsPrefix z.1.view.heard c.load.new.seat.me.0.heard) (λ i. (c.self.view_is i, c.other.view_is i))
+    subst (λ (z : Pass × Pass). IsPrefix z.0.view.heard c.load.new.seat.me.0.heard × IsPrefix z.1.view.heard c.load.new.seat.me.0.heard) (λ i. (c.self.view_is i, c.other.view_is i))
     (heard_begins c.self.inside.number c.self.inside.seat.me c.other.inside.seat.me.0 c.join_seat.new.seat.me c.load.new.seat.me c.self.invariant (search rules) l.0 l.1 l.2 l.3 l.4 l.5)
 
 pub returns-clause-knows : goal.returns-clause-knows
@@ -51,4 +51,4 @@ pub returns-clause-same : goal.returns-clause-same
 returns-clause-same c =
     let l = c.load.ensures.2 in
     let same = only_heard c.self.inside.number c.self.inside.seat.me c.other.inside.seat.me.0 c.join_seat.new.seat.me c.load.new.seat.me c.self.invariant (search rules) l.0 l.1 l.2 l.3 l.4 l.5 c.self.inside.seat.table_id c.load.new.seat.table_id (search rules) in
-    subst (λ (z : Known). HasOnlyHeard z (record { table = c.load.new.seat.table_id; number = c.self.inside.number; view = c.load.new.seat.me.0 })) c.self.view_is same
+    subst (λ (z : Pass). HasOnlyHeard z (record { table = c.load.new.seat.table_id; number = c.self.inside.number; view = c.load.new.seat.me.0 })) c.self.view_is same

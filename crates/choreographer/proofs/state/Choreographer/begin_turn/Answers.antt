@@ -1,6 +1,6 @@
 use Rattle.std.proofs.Common.{rules, arith, ◌≡◌, ◌∷◌, [], ℕ, Some, sym, ap, ◌∙◌, subst}
 use Rattle.choreographer.specs.Plays.{Sat, MaySeal, MayPulse}
-use Rattle.choreographer.specs.Known.{Known}
+use Rattle.choreographer.specs.Known.{Pass}
 use Rattle.choreographer.proofs.ByTurn.{turned, begin_gives, keeps_handed, may_pulse}
 use Rattle.choreographer.proofs.Stamps.{stamped_begin}
 use Rattle.choreographer.proofs.Clock.{backs_late}
@@ -20,13 +20,13 @@ give-requires-clause-leaves g c = record {
       (keeps_handed c.args.self.now.constants c.pass.inside.seat.me.0 x c.begin_frame-answer.new.self c.take-state.new.seat.me.0.heard c.begin_frame-answer.ensures.steps.0));
   latest = subst (λ (z : Sat). MayPulse c.args.self.now.constants z.0 c.begin_frame-answer.new.self) (sym c.take-state.ensures.taken)
       (may_pulse c.args.self.now.constants c.pass.inside.seat.me.0 c.take-state.result c.begin_frame-answer.new.self c.take-state.new.seat.me.0.heard c.pass.inside.number c.pass.invariant.2
-      (λ n named. ap (λ (p : Known). p.number) c.pass.view_is ∙ c.requires.begins.0 n named));
+      (λ n named. ap (λ (p : Pass). p.number) c.pass.view_is ∙ c.requires.begins.0 n named));
   asks = begun_asks c.take-state.result c.begin_frame-answer.new.self c.args.self.now.constants c.args.start c.begin_frame-answer.result c.begin_frame-answer.ensures.begins
       (λ n named.
       let is : c.args.pass.now.number ≡ n = c.requires.begins.0 n named in
-      let only : c.pass.inside.seat.me.0.passes ≡ n ∷ [] = c.pass.invariant.2 ∙ ap (λ (k : ℕ). k ∷ []) (ap (λ (p : Known). p.number) c.pass.view_is ∙ is) in
+      let only : c.pass.inside.seat.me.0.passes ≡ n ∷ [] = c.pass.invariant.2 ∙ ap (λ (k : ℕ). k ∷ []) (ap (λ (p : Pass). p.number) c.pass.view_is ∙ is) in
       (c.take-state.ensures.found.latest n named only).1
-      ∙ (ap (λ (p : Known). p.view.awaits) c.pass.view_is ∙ c.requires.begins.1 c.args.self.now.constants c.requires.pass.1 (named ∙ ap Some (sym is))))
+      ∙ (ap (λ (p : Pass). p.view.awaits) c.pass.view_is ∙ c.requires.begins.1 c.args.self.now.constants c.requires.pass.1 (named ∙ ap Some (sym is))))
       c.take-state.ensures.found.asks;
 }
 

@@ -1,6 +1,6 @@
 use Rattle.std.proofs.Common.{rules, sym, ap, ◌∙◌, subst}
 use Rattle.choreographer.specs.Plays.{Sat, MayPulse}
-use Rattle.choreographer.specs.Known.{Known}
+use Rattle.choreographer.specs.Known.{Pass}
 use Rattle.choreographer.proofs.ByTurn.{turned, may_pulse}
 use Rattle.choreographer.proofs.Stamps.{stamped_take}
 use Rattle.choreographer.proofs.Waits.{taken_waits}
@@ -13,7 +13,7 @@ give-requires-clause-leaves g c = record {
   handed = search rules;
   latest = subst (λ (z : Sat). MayPulse c.args.self.now.constants z.0 c.take-answer.new.self) (sym c.take-state.ensures.taken)
       (may_pulse c.args.self.now.constants c.pass.inside.seat.me.0 c.take-state.result c.take-answer.new.self c.take-state.new.seat.me.0.heard c.pass.inside.number c.pass.invariant.2
-      (λ n named. ap (λ (p : Known). p.number) c.pass.view_is ∙ c.requires.delivers n named));
+      (λ n named. ap (λ (p : Pass). p.number) c.pass.view_is ∙ c.requires.delivers n named));
   asks = (taken_waits c.take-state.result c.take-answer.new.self c.args.phase c.args.now c.take-answer.result c.take-answer.ensures.takes).asks c.args.self.now.constants c.take-state.ensures.found.asks;
 }
 

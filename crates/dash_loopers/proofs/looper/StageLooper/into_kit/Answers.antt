@@ -1,7 +1,7 @@
 use Rattle.std.proofs.Common.{List, [], ◌∷◌, ◌++◌, Option, sym, ap, ◌∙◌, arith}
 use Rattle.std.specs.List.{insert}
 use Rattle.looper_run.specs.Holding.{Sender}
-use Rattle.choreographer.specs.Known.{Known as Pass}
+use Rattle.choreographer.specs.Known.{Pass}
 use Rattle.dash_loopers.specs.declared.player.Parts.{Parts}
 use Rattle.dash_loopers.specs.Loopers.{others_in}
 use Rattle.dash_loopers.proofs.LooperKits.{looper_of, parts_of, others_many, kit_again, seen_over, disposes_again, told_again}

@@ -1,13 +1,13 @@
 use Rattle.std.proofs.Common.{◌≡◌, ◌<◌, ℕ, ◌+◌, get_or, replicate, List, [], refl, sym, ap, ◌∙◌, subst, arith}
 use Rattle.std.specs.List.{remove}
 use Rattle.std.proofs.lemmas.List.Edits.{get_or-remove_above}
-use Rattle.choreographer.specs.Known.{Known as Pass}
-use Rattle.choreographer.specs.Turn.{entries_of}
+use Rattle.choreographer.specs.Known.{Pass}
+use Rattle.choreographer.specs.Turn.{made_entries}
 use Rattle.looper_run.specs.Holding.{Sender, Holding}
 use Rattle.dash_hall.specs.Kits.{AreUnseen, frame_badge_of, frame_badge_for}
 use Rattle.std.proofs.lemmas.Option.{same_Some}
 use Rattle.dash_hall.specs.Hearing.{HasHeardAll}
-use Rattle.dash_loopers.specs.Loopers.{Rest}
+use Rattle.dash_loopers.specs.Loopers.{LooperRest}
 use Rattle.dash_loopers.proofs.LooperPasses.{unheard_all}
 use Rattle.dash_loopers.proofs.LooperKits.{its_frames, two_frames, first_is, kit_many, kit_two, posters_begin, looper_begins}
 use Rattle.dash_loopers.proofs.LooperPlaces.{none_latest}
@@ -70,9 +70,9 @@ returns c =
             c.in_ok-new.ensures.still c.in_ok-new.ensures.gauges c.in_ok-new.ensures.rest.0 c.in_ok-new.ensures.rest.1 c.in_ok-new.ensures.rest.2
             (subst AreUnseen (sym c.remove-poster.ensures.items) (unseen_without kit.posters.items c.args.number many unused.posters))
             (c.in_ok-vec.ensures.items_if_clones_equal (λ y same. same) ∙ ap (λ (n : ℕ). replicate n 0) c.len.ensures)
-            (ap (λ (p : Pass). p.view.own) c.in_ok-new.ensures.pass ∙ unasked) (ap (λ (p : Pass). p.view.turns) c.in_ok-new.ensures.pass ∙ untaken) unrun unpulsed refl (sym first.0.seen ∙ ap entries_of first.1);
+            (ap (λ (p : Pass). p.view.own) c.in_ok-new.ensures.pass ∙ unasked) (ap (λ (p : Pass). p.view.turns) c.in_ok-new.ensures.pass ∙ untaken) unrun unpulsed refl (sym first.0.seen ∙ ap made_entries first.1);
         nothing = record { acts = ap (λ (h : Holding). h.journal.acts) held; idle_owed = c.make.ensures.flags.0; pass = ap (λ (h : Holding). h.pass) held };
-        unheard = λ r is. subst (λ (z : Rest). HasHeardAll [] z.frames × HasHeardAll [] z.root.pass) (same_Some _ _ is) (
+        unheard = λ r is. subst (λ (z : LooperRest). HasHeardAll [] z.frames × HasHeardAll [] z.root.pass) (same_Some _ _ is) (
           first,
           subst (HasHeardAll []) (sym c.in_ok-new.ensures.pass) (unheard_at 1 c.remove-client.result (omega arith) second),
         );

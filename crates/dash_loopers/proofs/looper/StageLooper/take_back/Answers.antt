@@ -1,6 +1,6 @@
 use Rattle.std.proofs.Common.{refl, ◌∙◌}
 use Rattle.run_model.specs.ByClock.{in_free_mode}
-use Rattle.dash_loopers.specs.Looped.{with_parts}
+use Rattle.dash_loopers.specs.Looped.{looper_with_parts}
 use Rattle.dash_loopers.proofs.LooperKits.{looper_of, parts_of}
 use Rattle.dash_loopers.proofs.LooperLooped.{looped_with}
 use Rattle.dash_loopers.proofs.looper.StageLooper.take_back.Goals as goal
@@ -8,12 +8,12 @@ use Rattle.dash_loopers.proofs.looper.StageLooper.take_back.Goals as goal
 pub close-requires-clause-looper : goal.close-requires-clause-looper
 close-requires-clause-looper g c =
     let p = c.args.player in
-    looper_of p.place.script.now p.place.hall.now (with_parts c.args.self.now c.args.last p.parts) c.requires.hall c.requires.looped.looper
+    looper_of p.place.script.now p.place.hall.now (looper_with_parts c.args.self.now c.args.last p.parts) c.requires.hall c.requires.looped.looper
 
 pub close-requires-clause-parts : goal.close-requires-clause-parts
 close-requires-clause-parts g c =
     let p = c.args.player in
-    parts_of p.place.script.now p.place.hall.now (with_parts c.args.self.now c.args.last p.parts) p.parts c.requires.looped.looper refl
+    parts_of p.place.script.now p.place.hall.now (looper_with_parts c.args.self.now c.args.last p.parts) p.parts c.requires.looped.looper refl
 
 pub returns-clause-looped : goal.returns-clause-looped
 returns-clause-looped g c =

@@ -5,7 +5,7 @@ use mathlib.Core.List.{IsPrefix}
 use Rattle.loop_model.proofs.Prefixes.{prefix_trans}
 use Rattle.looper_run.specs.Holding.{Sender}
 use Rattle.dash_hall.proofs.PassesHearing.{pass_heard, pass_heard_then}
-use Rattle.dash_loopers.specs.Loopers.{Rest, others_in, rest_in}
+use Rattle.dash_loopers.specs.Loopers.{LooperRest, others_in, rest_in}
 use Rattle.dash_loopers.proofs.LooperPasses.{may_same}
 use Rattle.dash_loopers.proofs.looper.StageLooper.tell_passes.Goals as goal
 
@@ -49,7 +49,7 @@ returns-clause-told c r here =
     let is : c.args.self.now.parts ≡ Some parts = cc in
     let all = c.hear-2.new.self.view.heard in
     let same = same_Some _ _ (ap rest_in (sym is) ∙ here) in
-    subst (λ (z : Rest). IsPrefix z.frames.view.heard all × IsPrefix z.root.pass.view.heard all) same
+    subst (λ (z : LooperRest). IsPrefix z.frames.view.heard all × IsPrefix z.root.pass.view.heard all) same
     (prefix_trans parts.frames.view.heard c.hear.new.self.view.heard all c.hear.ensures.begins.1 c.hear-2.ensures.begins.0, c.hear-2.ensures.begins.1)
 
 pub returns-clause-knows : goal.returns-clause-knows

@@ -3,7 +3,7 @@ use Rattle.looper_run.specs.Holding.{Sender}
 use Rattle.dash_loopers.specs.Clocked.{AddsUntimed}
 use Rattle.dash_loopers.proofs.LooperLent.{lent_pass}
 use Rattle.loop_model.specs.declared.call.Call.TheVariants.{Post}
-use Rattle.run_model.specs.Planned.{plain}
+use Rattle.run_model.specs.Planned.{bare_call}
 use Rattle.dash_loopers.proofs.LooperClock.{made_untimed}
 use Rattle.dash_loopers.proofs.player.Place.send_by.Goals as goal
 
@@ -17,4 +17,4 @@ returns-clause-leaves g c = record {
 pub returns-clause-untimed : goal.returns-clause-untimed
 returns-clause-untimed g c =
     subst (λ (p : Sender). AddsUntimed c.args.poster.now p) (search rules)
-    (made_untimed c.args.poster.now c.send.new.way.poster.now c.args.own.now.pass.now c.send.new.way.pass.now (plain (Post c.args.post.now)) c.send.result c.send.ensures.called.by.on refl c.send.ensures.called.by.made c.send.ensures.called.by.none)
+    (made_untimed c.args.poster.now c.send.new.way.poster.now c.args.own.now.pass.now c.send.new.way.pass.now (bare_call (Post c.args.post.now)) c.send.result c.send.ensures.called.by.on refl c.send.ensures.called.by.made c.send.ensures.called.by.none)

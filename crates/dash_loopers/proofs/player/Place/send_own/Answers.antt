@@ -2,7 +2,7 @@ use Rattle.dash_loopers.proofs.LooperPlaces.{queue_home}
 use Rattle.choreographer.proofs.Phases.{on_ok}
 use Rattle.dash_loopers.proofs.RuleSteps.{called_here}
 use Rattle.loop_model.specs.declared.call.Call.TheVariants.{Post}
-use Rattle.run_model.specs.Planned.{plain}
+use Rattle.run_model.specs.Planned.{bare_call}
 use Rattle.dash_loopers.proofs.LooperClock.{made_untimed}
 use Rattle.dash_loopers.proofs.player.Place.send_own.Goals as goal
 use Rattle.std.proofs.Common.{refl}
@@ -21,7 +21,7 @@ returns-clause-plays g c = λ parts timing.
 
 pub returns-clause-untimed : goal.returns-clause-untimed
 returns-clause-untimed g c =
-    made_untimed c.args.own.now.poster.now c.send.new.way.poster.now c.args.own.now.pass.now c.send.new.way.pass.now (plain (Post c.args.post.now)) c.send.result c.send.ensures.called.by.on refl c.send.ensures.called.by.made c.send.ensures.called.by.none
+    made_untimed c.args.own.now.poster.now c.send.new.way.poster.now c.args.own.now.pass.now c.send.new.way.pass.now (bare_call (Post c.args.post.now)) c.send.result c.send.ensures.called.by.on refl c.send.ensures.called.by.made c.send.ensures.called.by.none
 
 pub returns-clause-leaves : goal.returns-clause-leaves
 returns-clause-leaves g c =

@@ -4,7 +4,7 @@ use Rattle.std.specs.Global.{Vec}
 use Rattle.looper_run.specs.Holding.{Sender}
 use Rattle.dash_hall.specs.Growth.{own}
 use Rattle.dash_stage.specs.Controllers.{CallsNone}
-use Rattle.dash_stage.specs.Timeliness.{IsNone, TurnsOn}
+use Rattle.dash_stage.specs.Timeliness.{IsNoEntry, TurnsOn}
 use Rattle.dash_stage.proofs.Controller.ControlKept.{none_after}
 use Rattle.dash_stage.proofs.Controller.Controlling.{poster_count}
 use Rattle.dash_stage.proofs.Stages.StageTurns.{turns_none, turns_more}
@@ -14,7 +14,7 @@ pub loop-place-init : goal.loop-place-init
 loop-place-init g c = record {
   controller = c.requires.controller;
   none = record { long = refl; calls = λ q d. refl };
-  turns = turns_none IsNone c.args.self.now;
+  turns = turns_none IsNoEntry c.args.self.now;
   rest = λ q d le. refl;
 }
 
@@ -33,10 +33,10 @@ loop-place-preserved g c =
       long = ap (λ (v : Vec Sender). length v.items) posters ∙ c.seal_one.ensures.none.long;
       calls = λ q d. ap (λ (v : Vec Sender). own (slice_index_or v.items q d)) posters ∙ c.seal_one.ensures.none.calls q d;
     } in
-    let here = subst (λ (v : Vec Sender). (d : Sender) → TurnsOn IsNone (slice_index_or at.self.kit.posters.items at.place d) (slice_index_or v.items at.place d)) (sym posters) c.seal_one.ensures.here in
+    let here = subst (λ (v : Vec Sender). (d : Sender) → TurnsOn IsNoEntry (slice_index_or at.self.kit.posters.items at.place d) (slice_index_or v.items at.place d)) (sym posters) c.seal_one.ensures.here in
     let elsewhere = subst (λ (v : Vec Sender). (q : ℕ) (d : Sender) → q ≢ at.place → slice_index_or v.items q d ≡ slice_index_or at.self.kit.posters.items q d) (sym posters) c.seal_one.ensures.alone.elsewhere in
     let long = poster_count c.args.script.now c.args.hall.now after c.requires.is_hall c.seal_frames.ensures.controller ∙ sym (poster_count c.args.script.now c.args.hall.now at.self c.requires.is_hall at.invariant.controller) in
-    let more = turns_more IsNone c.args.self.now at.self after at.place at.invariant.turns at.invariant.rest long here elsewhere in
+    let more = turns_more IsNoEntry c.args.self.now at.self after at.place at.invariant.turns at.invariant.rest long here elsewhere in
     record {
       controller = c.seal_frames.ensures.controller;
       none = none_after c.args.self.now at.self after at.invariant.none calls;

@@ -6,7 +6,7 @@ use Rattle.dash_hall.specs.Hearing.{AtEach}
 use Rattle.dash_threads.specs.Threads.{AreByClock}
 use Rattle.dash_loopers.specs.declared.looper.StageLooper.{StageLooper}
 use Rattle.dash_stage.specs.ByClock.{HaveLooped}
-use Rattle.dash_stage.specs.Playing.{HaveComeBy}
+use Rattle.dash_stage.specs.Playing.{EachStandsBetweenLoops}
 use Rattle.dash_stage.specs.Sharing.{OfLoopers}
 use Rattle.dash_stage.specs.Stages.{AreLoopers, OthersHaveEnded, LoopersGoOn}
 use Rattle.dash_stage.proofs.ByClock.ClockEnds.{loopers_ran, loopers_clocked, loopers_played, closing_heard}
@@ -26,7 +26,7 @@ returns g c =
     let ended = subst (λ (xs : List StageLooper). OthersHaveEnded xs → OthersHaveEnded ls) c.as_mut_slice.ensures.value c.drain_first.ensures.others was.ran.ended in
     let wrote = with_items_is st.loopers ls (omega (arith, looped.long, st.loopers.ok.0)) in
     let on : LoopersGoOn ls = subst LoopersGoOn (c.as_slice.ensures.value ∙ wrote) (c.some_gave_up.ensures c.if-some_gave_up.false) in
-    let played : HaveComeBy s ls = loopers_played m s hall st.loopers.items ls was.stage.text was.stage.loopers looped on was.ran.played in
+    let played : EachStandsBetweenLoops s ls = loopers_played m s hall st.loopers.items ls was.stage.text was.stage.loopers looped on was.ran.played in
     record {
       closing = closing_heard m s _ c.share_by_clock.new.self c.share_by_clock.ensures.stage c.share_by_clock.ensures.shares.shared c.share_by_clock.ensures.shares.kept was.some
           was.stage.hall (subst (AreLoopers s hall) (sym wrote) (loopers_ran m s hall st.loopers.items ls was.stage.loopers looped))
@@ -40,7 +40,7 @@ returns g c =
             ended = subst OthersHaveEnded (sym wrote) ended;
             on = subst LoopersGoOn (sym wrote) on;
             looped = subst (HaveLooped m s) (sym wrote) (looped_on m s st.loopers.items ls was.ran.looped (all_grew m s hall st.loopers.items ls looped on));
-            played = subst (HaveComeBy s) (sym wrote) played;
+            played = subst (EachStandsBetweenLoops s) (sym wrote) played;
             behind = was.ran.behind;
           }) was.closing;
     }

@@ -1,7 +1,7 @@
 use Rattle.std.proofs.Common.{◌≡◌, ◌∙◌, inr, sym, refl, length}
 use Rattle.dash_hall.specs.Hearing.{HaveHeard}
 use Rattle.dash_stage.specs.declared.stage.Stage.{Stage}
-use Rattle.dash_stage.specs.Timeliness.{Halts, whole_on}
+use Rattle.dash_stage.specs.Timeliness.{IsHaltEntry, whole_on}
 use Rattle.dash_stage.proofs.Controller.ControlKept.{closing_kept, closed_kept}
 use Rattle.dash_stage.proofs.Sharing.StageShares.{calls_none, ended_kept}
 use Rattle.dash_stage.proofs.Sharing.Turns.{awaited_ended}
@@ -47,7 +47,7 @@ returns-then-halted g c =
       stage = shared.stage;
       ends = λ past rests.
           let before = (c.in_ok-run_rounds.ensures.rounds.at past (at.closes.at past rests)).at in
-          let over = turned_by Halts s ran _ st' shared is before.timely.same refl refl halt.turns in
+          let over = turned_by IsHaltEntry s ran _ st' shared is before.timely.same refl refl halt.turns in
           record {
             stage = shared.stage;
             at = (turned_at over (λ e halts. halt_moves_not e.call halts) shared.heard kept.time (λ q d lt. inr (λ e sound halts. halt_in_time (whole_on ran.controller q d) e.call e.reply halts)) past before).at;
@@ -76,7 +76,7 @@ loop-2-preserved g c =
         closing = closing_kept s c.halt-halted.new.self st'.controller (calls_none c.halt-halted.new.self st'.controller kept.controller) (halt.going c.if-halted.false);
         at = λ past rests.
             let before = (c.in_ok-run_rounds.ensures.rounds.at past (at.closes.at past rests)).at in
-            let over = turned_by Halts s ran _ st' shared is before.timely.same refl refl halt.turns in
+            let over = turned_by IsHaltEntry s ran _ st' shared is before.timely.same refl refl halt.turns in
             (turned_at over (λ e halts. halt_moves_not e.call halts) shared.heard kept.time (λ q d lt. inr (λ e sound halts. halt_in_time (whole_on ran.controller q d) e.call e.reply halts)) past before).at;
       };
       ended = ended_kept HaveHeard ran.loopers.items st'.loopers.items kept.loopers (awaited_ended c.loop-2.self.loopers.items ran.loopers.items many turns.others at.ended);

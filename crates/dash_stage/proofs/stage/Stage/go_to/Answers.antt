@@ -1,7 +1,7 @@
 use Rattle.std.proofs.Common.{◌≡◌, ℕ, List, max, true, true≢false, sym, ap, ◌∙◌, subst, arith}
 use Rattle.dash_stage.specs.Controllers.{HasReached}
 use Rattle.dash_script.specs.declared.script.Block.{Block}
-use Rattle.dash_stage.specs.Steps.{RestsAt, ComesBefore, BeginsBlock}
+use Rattle.dash_stage.specs.Steps.{RestsAt, TimeLiesAhead, BeginsBlock}
 use Rattle.dash_stage.proofs.Stepping.{way_still, before_on, ready_by}
 use Rattle.dash_stage.proofs.stage.Stage.go_to.Goals as goal
 use Rattle.dash_stage.proofs.stage.Stage.go_to.Goals.{else-moved-via-then-moved+else-next-time, else-moved-via-else-moved}
@@ -67,6 +67,6 @@ returns-then-next-time g c =
         };
         at = λ past rests. (on.at past (ready past (at.rests past rests))).at;
         block = λ past rests before. subst (λ (t : ℕ). BeginsBlock s past t gone) same
-            (on.block past (ready past (at.rests past rests)) (subst (λ (t : ℕ). ComesBefore s past t st) (sym same) (at.before past rests before)));
+            (on.block past (ready past (at.rests past rests)) (subst (λ (t : ℕ). TimeLiesAhead s past t st) (sym same) (at.before past rests before)));
       };
     }

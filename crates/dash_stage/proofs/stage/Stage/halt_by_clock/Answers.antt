@@ -4,7 +4,7 @@ use Rattle.run_model.specs.ByClock.{in_free_mode}
 use Rattle.dash_loopers.proofs.LooperMoments.{of_shown}
 use Rattle.dash_stage.specs.declared.stage.Stage.{Stage}
 use Rattle.dash_stage.specs.RunEnds.{HasRunByClock}
-use Rattle.dash_stage.specs.Timeliness.{Halts}
+use Rattle.dash_stage.specs.Timeliness.{IsHaltEntry}
 use Rattle.dash_stage.proofs.ByClock.Behind.{behind_on, same_threads, sees_turned}
 use Rattle.dash_stage.proofs.ByClock.ClockEnds.{closing_heard, ended_heard}
 use Rattle.dash_stage.proofs.stage.Stage.halt_by_clock.Goals as goal
@@ -35,7 +35,7 @@ returns g c =
       on = ran.on;
       looped = ran.looped;
       played = ran.played;
-      behind = behind_on s st.threads.items st.threads.items st.controller halted (same_threads st.threads.items) (sees_turned Halts st.controller halted halt.turns) ran.behind;
+      behind = behind_on s st.threads.items st.threads.items st.controller halted (same_threads st.threads.items) (sees_turned IsHaltEntry st.controller halted halt.turns) ran.behind;
     } in
     record {
       closing = λ going. closing_heard m s mid c.share_by_clock.new.self share.stage share.shares.shared share.shares.kept was.some was.stage.hall was.stage.loopers now (halt.going going);

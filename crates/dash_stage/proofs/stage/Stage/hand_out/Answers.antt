@@ -1,5 +1,5 @@
 use Rattle.std.proofs.Common.{inr, refl}
-use Rattle.dash_stage.specs.Timeliness.{IsNone}
+use Rattle.dash_stage.specs.Timeliness.{IsNoEntry}
 use Rattle.dash_stage.proofs.Stages.Turned.{turned_by}
 use Rattle.dash_stage.proofs.Stepping.{still_shared, turned_at}
 use Rattle.dash_stage.proofs.stage.Stage.hand_out.Goals as goal
@@ -12,7 +12,7 @@ returns g c =
     record {
       still = still_shared s st _ c.share.new.self shared c.seal.ensures.idle.none refl;
       shares = record {
-        at = λ past at. turned_at (turned_by IsNone s st _ c.share.new.self shared c.requires.stage at.timely.same refl refl c.in_ok-seal.ensures.turns) (λ e none. absurd none) shared.heard shared.kept.time
+        at = λ past at. turned_at (turned_by IsNoEntry s st _ c.share.new.self shared c.requires.stage at.timely.same refl refl c.in_ok-seal.ensures.turns) (λ e none. absurd none) shared.heard shared.kept.time
             (λ q d lt. inr (λ e sound none. absurd none)) past at;
         same = shared.same;
       };

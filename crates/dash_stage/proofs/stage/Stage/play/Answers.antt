@@ -4,7 +4,7 @@ use Rattle.std.proofs.lemmas.List.{take_all}
 use Rattle.dash_script.specs.declared.script.Block.{Block}
 use Rattle.run_model.specs.FrameRecords.{in_block}
 use Rattle.dash_stage.specs.declared.stage.Stage.{Stage}
-use Rattle.dash_stage.specs.Steps.{StageAt, RestsAt, ComesBefore, IsAtNext}
+use Rattle.dash_stage.specs.Steps.{StageAt, RestsAt, TimeLiesAhead, IsAtNext}
 use Rattle.dash_stage.proofs.BlockTimes.Blocks.{blocks_next, blocks_past}
 use Rattle.dash_stage.proofs.BlockTimes.Limits.{before_end, before_next}
 use Rattle.dash_stage.proofs.Controller.ControlKept.{reached_kept}
@@ -63,7 +63,7 @@ loop-block-preserved g c =
       moving = c.go_to.ensures.way.moving;
       now = c.in_ok-go_to.ensures.goes.gone.now;
       at = goes.at (take i bs) at.rests;
-      begins = goes.block (take i bs) at.rests (subst (λ (z : Block). ComesBefore s (take i bs) z.time c.loop-block.self) (sym is) (at.before b lt));
+      begins = goes.block (take i bs) at.rests (subst (λ (z : Block). TimeLiesAhead s (take i bs) z.time c.loop-block.self) (sym is) (at.before b lt));
     } in
     let ran = subst (λ (l : List Block). StageAt s l c.run_block.new.self) (blocks_past bs i b lt is) (c.in_ok-run_block.ensures.next (take i bs) (drop (i + 1) bs) next) in
     let settled = (c.in_ok-settle.ensures.settles.at (take (i + 1) bs) ran).at in

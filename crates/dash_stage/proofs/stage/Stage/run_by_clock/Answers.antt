@@ -10,7 +10,7 @@ use Rattle.dash_threads.specs.Threads.{AreByClock}
 use Rattle.dash_loopers.specs.declared.looper.StageLooper.{StageLooper}
 use Rattle.dash_stage.specs.ByClock.{RunsByClock, HaveLooped, LoopSideBySide}
 use Rattle.dash_stage.specs.BehindThreads.{CallsBehindThreads}
-use Rattle.dash_stage.specs.Playing.{HaveComeBy}
+use Rattle.dash_stage.specs.Playing.{EachStandsBetweenLoops}
 use Rattle.dash_stage.specs.Sharing.{OfThreads, OfLoopers}
 use Rattle.dash_stage.specs.Stages.{AreThreads, AreLoopers, HaveRunBy, GoOn, OthersHaveEnded, LoopersGoOn}
 use Rattle.dash_stage.proofs.ByClock.ClockEnds.{threads_ran_all, threads_clocked, loopers_ran, loopers_clocked, loopers_played, begins_played, closing_heard}
@@ -54,7 +54,7 @@ returns g c =
     let going_on : (d : StageLooper) → is_ended (slice_index_or ls 0 d).last ≡ false =
     λ d. subst (λ (xs : List StageLooper). is_ended (slice_index_or xs 0 d).last ≡ false) (c.as_slice-3.ensures.value ∙ wrote') (c.main_has_ended.ensures d ∙ c.if-main_has_ended.false) in
     let first : HaveLooped m s ls = looped_first m s st.loopers.items ls begun.loopers looped.long side ended on going_on in
-    let played : HaveComeBy s ls = loopers_played m s hall st.loopers.items ls begun.stage.text begun.stage.loopers looped on (begins_played s st.loopers.items begun.loopers) in
+    let played : EachStandsBetweenLoops s ls = loopers_played m s hall st.loopers.items ls begun.stage.text begun.stage.loopers looped on (begins_played s st.loopers.items begun.loopers) in
     record {
       closing = closing_heard m s _ c.share_by_clock.new.self c.share_by_clock.ensures.stage c.share_by_clock.ensures.shares.shared c.share_by_clock.ensures.shares.kept begun.some
           begun.stage.hall (subst (AreLoopers s hall) (sym wrote') (loopers_ran m s hall st.loopers.items ls begun.stage.loopers looped))
@@ -68,7 +68,7 @@ returns g c =
             ended = subst OthersHaveEnded (sym wrote') ended;
             on = subst LoopersGoOn (sym wrote') on;
             looped = subst (HaveLooped m s) (sym wrote') first;
-            played = subst (HaveComeBy s) (sym wrote') played;
+            played = subst (EachStandsBetweenLoops s) (sym wrote') played;
             behind = subst (λ (xs : List PostingThread). CallsBehindThreads s xs c.run_side_by_side-quit.new.controller) (sym wrote) (c.run_side_by_side-quit.ensures.ends.behind c.if-not-quit.false);
           }) quit.closing;
     }

@@ -1,5 +1,5 @@
 use Rattle.std.proofs.Common.{ℕ, List, true≢false, sym, ap, ◌∙◌}
-use Rattle.dash_threads.specs.Threads.{one_more}
+use Rattle.dash_threads.specs.Threads.{one_more_at}
 use Rattle.dash_threads.proofs.ThreadSteps.{ok_is}
 use Rattle.dash_threads.proofs.thread.PostingThread.run_unless_stopped.Goals as goal
 
@@ -13,7 +13,7 @@ pub returns-then-is_err-clause-bells : goal.returns-then-is_err-clause-bells
 returns-then-is_err-clause-bells g c = λ going. absurd (true≢false (sym c.give_up.ensures.gave_up ∙ going))
 
 pub returns-then-is_err-clause-nudges : goal.returns-then-is_err-clause-nudges
-returns-then-is_err-clause-nudges g c = λ look going up. c.give_up.ensures.rung ∙ ap (λ (rs : List ℕ). one_more 0 rs) c.run.ensures.works.bells
+returns-then-is_err-clause-nudges g c = λ look going up. c.give_up.ensures.rung ∙ ap (λ (rs : List ℕ). one_more_at 0 rs) c.run.ensures.works.bells
 
 pub returns-else-is_err-clause-bells : goal.returns-else-is_err-clause-bells
 returns-else-is_err-clause-bells g c = λ going. c.run.ensures.works.bells

@@ -4,7 +4,7 @@ use Rattle.message_pool.specs.Passes.{Claimed}
 use Rattle.queue_state.specs.declared.answers.Nexted.{Nexted}
 use Rattle.shared_queue.specs.Calls.{NextedBy}
 use Rattle.looper_run.specs.Holding.{Holding, Looping, held}
-use Rattle.looper_run.specs.Acts.{IsIdle}
+use Rattle.looper_run.specs.Acts.{IsIdleAct}
 use Rattle.looper_run.specs.Told.{Dispatches, GivesBack}
 use Rattle.looper_run.specs.Tests.{Passes}
 use Rattle.looper_run.specs.Ready.{RestsBetween, HasToDispatch}
@@ -69,7 +69,7 @@ returns-after-run_idle-clause-comes g c =
     let M = D.Meets c.args.d.now in
     let l = c.args.self.now in
     let here = subst (λ (x : Looping). M x.held.poster.sender x.held.poster.view.seen x.held.journal.acts) (sym c.self.view_is)
-    (answer_idle M l c.args.answer c.requires.may.answered.look (g.met.D.Dispatcher.others c.args.d.now) (g.met.D.Dispatcher.quiet c.args.d.now) l.held.journal.acts c.in-Idle.is (grows_none IsIdle l.held.journal.acts)) in
+    (answer_idle M l c.args.answer c.requires.may.answered.look (g.met.D.Dispatcher.others c.args.d.now) (g.met.D.Dispatcher.quiet c.args.d.now) l.held.journal.acts c.in-Idle.is (grows_none IsIdleAct l.held.journal.acts)) in
     let after : Holding = record { poster = c.self.inside.poster; pass = c.self.inside.pass; journal = c.run_idle.new.journal } in
     let still : RestsBetween D.Awaits D.Meets c.run_idle.new.d after = record {
       awaits = c.run_idle.ensures.tells.carries.awaits None c.requires.may.awaits;

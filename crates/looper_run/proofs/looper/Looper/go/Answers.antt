@@ -3,7 +3,7 @@ use Rattle.looper_run.specs.Holding.{Looping}
 use Rattle.looper_run.specs.Asked.{Asked, Listening, Listen, with_asked, any_heard}
 use Rattle.looper_run.specs.Carried.{unasked}
 use Rattle.looper_run.specs.Ready.{RestsBetween}
-use Rattle.looper_run.specs.Loops.{IsStill, UnlessLost, is_over, HasStepped, LoopBy, StepsBy, Stepped, IsClosed}
+use Rattle.looper_run.specs.Loops.{IsStill, UnlessLost, has_ended_looper, HasStepped, LoopBy, StepsUntil, Stepped, IsClosed}
 use Rattle.looper_run.specs.Going.{GoesThrough}
 use Rattle.looper_run.specs.declared.step.Step.TheVariants.{Ends}
 use Rattle.looper_run.specs.declared.by_clock.Loop.{Loop}
@@ -107,7 +107,7 @@ returns-in-Pauses-clause-comes g c =
     let all = keeps_then D.Serves D.origin D.nudges D.asked IsStill still_then c.args.d.now c.loop.d c.pace.new.d c.args.self.now.held c.loop.self.held c.pace.new.self.held here.keeps c.pace.ensures.comes.keeps in
     let P : Type 0 = RestsBetween D.Awaits D.Meets c.close.new.d c.close.new.self.held in
     let rests = unless_pauses P c.in-Pauses.pause (rests_closed D.Serves D.origin D.nudges D.Awaits D.Meets _ c.pace.new.d c.close.new.d c.pace.new.self c.close.new.self c.close.ensures.closed c.close.ensures.carries c.in-Pauses.ensures.comes.rests) in
-    subst (λ (r : Loop). GoesThrough D.Serves D.origin D.nudges unasked D.Awaits D.Meets IsStill (λ Q. UnlessLost r Q) c.args.d.now c.close.new.d c.args.self.now c.close.new.self (is_over r)) (sym c.as_loop.ensures) (record {
+    subst (λ (r : Loop). GoesThrough D.Serves D.origin D.nudges unasked D.Awaits D.Meets IsStill (λ Q. UnlessLost r Q) c.args.d.now c.close.new.d c.args.self.now c.close.new.self (has_ended_looper r)) (sym c.as_loop.ensures) (record {
       keeps = keeps_then_closed D.Serves D.origin D.nudges D.Awaits D.Meets _ c.pace.new.d c.close.new.d c.pace.new.self c.close.new.self c.close.ensures.closed c.close.ensures.carries D.asked c.args.d.now c.args.self.now.held all;
       rests = rests;
       ended = c.close.ensures.ended ∙ (c.pace.ensures.comes.ended ∙ (here.may.on.looper.going ∙ pause_goes_on c.in-Pauses.pause));
@@ -126,7 +126,7 @@ returns-in-Pauses-clause-steps g c =
     let same : asked c.pace.new.d ≡ asked c.args.d.now = c.pace.ensures.comes.keeps.asked ∙ c.loop.invariant.keeps.asked in
     let Q : List Listening → Type 0 = λ more. asked c.close.new.d ≡ with_asked (asked c.args.d.now) (map Listen more) in
     let closed : IsClosed Q c.pace.new.self c.close.new.self = closed_as _ Q c.pace.new.self c.close.new.self (λ more is. is ∙ ap (λ (t : Option (List Asked)). with_asked t (map Listen more)) same) c.in-Ok.ensures.closed in
-    subst (λ (r : Loop). StepsBy Q shows c.args.by.now.start c.args.by.now.cap c.args.self.now c.close.new.self r) (sym c.as_loop.ensures)
+    subst (λ (r : Loop). StepsUntil Q shows c.args.by.now.start c.args.by.now.cap c.args.self.now c.close.new.self r) (sym c.as_loop.ensures)
     (steps_pause Q shows c.args.by.now.start c.args.by.now.cap c.loop.invariant.steps.0 c.args.self.now c.loop.self c.pace.new.self c.close.new.self c.in-Pauses.pause c.loop.invariant.steps.1 c.in-Pauses.ensures.paced closed)
 
 pub returns-then-is_spent-clause-comes : goal.returns-then-is_spent-clause-comes

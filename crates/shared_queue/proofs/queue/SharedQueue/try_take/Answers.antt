@@ -2,7 +2,7 @@ use Rattle.std.proofs.Common.{rules, ◌≡◌, ◌<◌, length, [], ◌∷◌, 
 use Rattle.atomic_table.specs.Table.{rest}
 use Rattle.shared_queue.specs.Plays.{Sat}
 use Rattle.std.specs.Prelude.{MatchOption}
-use Rattle.shared_queue.specs.Seats.{HasTaken}
+use Rattle.shared_queue.specs.Seats.{HasTakenTurn}
 use Rattle.shared_queue.proofs.Turns.{takes_turn}
 use Rattle.shared_queue.proofs.Taken.{takes_out}
 use Rattle.shared_queue.proofs.queue.SharedQueue.try_take.Goals as goal
@@ -35,4 +35,4 @@ returns-then-compare_exchange-eq0-clause-taken g c =
     let live : m.0.constants ≡ Some key = ap (λ (z : M). z.0.constants) same ∙ c.requires.rests.0.0 in
     let empty : m.1 ≡ [] = ap (λ (z : M). z.1) same ∙ c.requires.rests.0.2 in
     let t = takes_out key m c.compare_exchange.new.seat.me c.exchange.new.seat.me c.exchange.result (c.exchange.new.seat.me ≡ c.args.seat.now.me) live empty won e.2 e.3 in
-    subst (λ (z : M). MatchOption c.exchange.result (c.exchange.new.seat.me ≡ c.args.seat.now.me) (λ x. HasTaken key z c.exchange.new.seat.me x)) same t
+    subst (λ (z : M). MatchOption c.exchange.result (c.exchange.new.seat.me ≡ c.args.seat.now.me) (λ x. HasTakenTurn key z c.exchange.new.seat.me x)) same t
