@@ -47,7 +47,7 @@ use Rattle.dash_loopers.specs.declared.player.Parts.{Parts}
 use Rattle.dash_hall.specs.Growth.{own}
 use Rattle.dash_hall.specs.Hosts.{pass_asks}
 use Rattle.dash_loopers.specs.Players.{PlaceWithout}
-use Rattle.dash_loopers.specs.Played.{IsRootOf, calls_in, IsPlayed, moments_of, asks_for, Delivers, pulse_acts, looper_pulsed, HasLatest, IsUpTo, HasRunAll, Pulses, IsAskedDueAt, StandsBy}
+use Rattle.dash_loopers.specs.Played.{IsRootOf, calls_in, IsPlayed, moments_of, asks_for, Delivers, pulse_acts, looper_pulsed, HasLatest, HasSeenUpTo, HasAllFrames, Pulses, IsAskedDueAt, StandsBy}
 use Rattle.dash_loopers.specs.Loopers.{IsSoundOn, setting_for}
 use Rattle.dash_loopers.specs.PlayingLaws.{calls_more, sound_front, clock_front, nanos_rise, runs_later, no_pulse}
 use Rattle.dash_loopers.proofs.LooperSteps.{AddsAt, delivers}
@@ -323,7 +323,7 @@ module _ (s : Script) (q k n now u : ℕ) (is_moment : ℕ → Bool) (m : PostDa
       known = d.waits.latest a.stamp (subst (HasLatest parts.frames a.stamp) (sym st.awaits_is) st.latest_is)
 
       -- in lockstep a frame begins at the queue's time, which is no earlier than all that the pass has seen
-      runs : lockstep ≡ true → IsSoundOn s q ((es ++ e ∷ []) ++ more) → HasRunAll s ((es ++ e ∷ []) ++ more) (acts' ++ Dispatch n now route ∷ []) parts'.frames by_dispatch.awaits by_reading.frames
+      runs : lockstep ≡ true → IsSoundOn s q ((es ++ e ∷ []) ++ more) → HasAllFrames s ((es ++ e ∷ []) ++ more) (acts' ++ Dispatch n now route ∷ []) parts'.frames by_dispatch.awaits by_reading.frames
       runs is sound =
           let b : Base = empty_base (sender_count s) in
           let once : IsSoundOn s q (es ++ e ∷ []) = sound_front s q (es ++ e ∷ []) more sound in
@@ -331,7 +331,7 @@ module _ (s : Script) (q k n now u : ℕ) (is_moment : ℕ → Bool) (m : PostDa
           let timed : now ≡ clock b es = subst (CallFitsTime true (clock b es)) take.call (IsLegal-last (setting_for s q) b es e once.legal).timely in
           let at_once : u ≡ clock b es = (at is).1 ∙ timed in
           let here = d.ran.in_time (nanos_of u) a.stamp a.awaits (λ m passes. eqb-true m (nanos_of u) (subst (λ (f : ℕ → Bool). f m ≡ true) (at is).0 passes)) st.latest_is
-          (subst (λ (t : ℕ). IsUpTo (nanos_of t) parts.frames) (sym at_once) was.up_to) in
+          (subst (λ (t : ℕ). HasSeenUpTo (nanos_of t) parts.frames) (sym at_once) was.up_to) in
           let early = clock_front b es (e ∷ []) in
           let late = clock_front b (es ++ e ∷ []) more in
           let begins : (a.awaits && starts_frame q m) ≡ true → is_some d.ran.frame ≡ true = λ both. (let p = and_parts a.awaits (starts_frame q m) both in

@@ -138,8 +138,8 @@ pub record RunsRound (lockstep : Bool) (s : Script) (now : ℕ) (before after : 
   pub looks : (is_ended before.last || is_given_up before.last) ≡ false → IsRound any_heard now before.looper after.looper after.last
 
 -- so it is in lockstep
-abbrev pub HasRunLockstep : Script → ℕ → StageLooper → StageLooper → Type 0
-HasRunLockstep s now before after = RunsRound true s now before after
+abbrev pub HasRunInLockstep : Script → ℕ → StageLooper → StageLooper → Type 0
+HasRunInLockstep s now before after = RunsRound true s now before after
 
 -- the Dispatch acts in the journal are, one for one and in order, the messages that this looper's own poster took
 abbrev pub HasTold : Script → ℕ → Journal → Kit → Type 0

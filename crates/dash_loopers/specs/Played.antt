@@ -187,15 +187,15 @@ ComesLater before came = (stamp : ℕ) (awaits : Bool) → HasLatest before stam
     → (comes_after_if_any stamp came ≡ true) × ((is_some came && awaits) ≡ false)
 
 -- no moment of what the pass has seen is later than this one
-abbrev pub IsUpTo : ℕ → Pass → Type 0
-IsUpTo t p = has_later t p.view.seen ≡ false
+abbrev pub HasSeenUpTo : ℕ → Pass → Type 0
+HasSeenUpTo t p = has_later t p.view.seen ≡ false
 
 -- where the test is of this moment alone, and the pass that alone delivers pulses had seen no later one, it has seen none; and if a frame was to begin and
 -- is to begin no more, one began
 abbrev pub RunsInTime : (ℕ → Bool) → Pass → Pass → Option ℕ → Type 0
 RunsInTime is_moment before after frame =
-    (t stamp : ℕ) (awaits : Bool) → ((n : ℕ) → is_moment n ≡ true → n ≡ t) → HasLatest before stamp awaits → IsUpTo t before
-    → IsUpTo t after × (awaits ≡ true → HasLatest after stamp false → is_some frame ≡ true)
+    (t stamp : ℕ) (awaits : Bool) → ((n : ℕ) → is_moment n ≡ true → n ≡ t) → HasLatest before stamp awaits → HasSeenUpTo t before
+    → HasSeenUpTo t after × (awaits ≡ true → HasLatest after stamp false → is_some frame ≡ true)
 
 -- a pulse of this period came, later than the latest, whose frame was not to begin any more, and is the latest now; or none came. The looper awaits its frame
 -- where one came, and else as before
@@ -318,8 +318,8 @@ pub record AreAlike (a b : LooperState) : Type 0 where
 
 -- in a queue's history in lockstep: no moment of what the pass has seen is later than the queue's time, and each pulse of these acts whose message is taken has
 -- its frame
-pub record HasRunAll (s : Script) (es : List Entry) (acts : List Act) (p : Pass) (awaits : Bool) (frames : List FrameAt) : Type 0 where
-  pub up_to : IsUpTo (nanos_of (clock (empty_base (sender_count s)) es)) p
+pub record HasAllFrames (s : Script) (es : List Entry) (acts : List Act) (p : Pass) (awaits : Bool) (frames : List FrameAt) : Type 0 where
+  pub up_to : HasSeenUpTo (nanos_of (clock (empty_base (sender_count s)) es)) p
   pub pulses : length (filter_map pulse_stamp acts) ≡ length frames + (if awaits then 1 else 0)
 
 -- the looper's acts lead to the one state, by whatever its frame record comes to, and all that the other state says is so: each frame that it ran took all
@@ -337,7 +337,7 @@ pub record StandsBy (lockstep : Bool) (s : Script) (q sender : ℕ) (es : List E
   pub settled : a.painted ≡ []
   pub latest_is : HasLatest parts.frames a.stamp a.awaits
   pub awaits_is : parts.awaits ≡ a.awaits
-  pub in_time : lockstep ≡ true → IsSoundOn s q es → HasRunAll s es acts parts.frames a.awaits did.frames
+  pub in_time : lockstep ≡ true → IsSoundOn s q es → HasAllFrames s es acts parts.frames a.awaits did.frames
   pub played : IsPlayed s q (calls_in sender es) parts did
 
 -- in lockstep, of one state: each frame that its dispatches ran started at the time of its dispatch

@@ -31,7 +31,7 @@ use Rattle.run_model.proofs.Growth.{ActsLead-entries}
 use Rattle.dash_loopers.specs.declared.player.Parts.{Parts}
 use Rattle.dash_loopers.specs.declared.looper.StageLooper.{StageLooper}
 use Rattle.dash_loopers.specs.Played.{calls_in, IsPlayed, StandsBy, Stands, IsTimedBy, HasLookedAt, IsPostedBy, GoesOnTo, ComesTo, IsPlaying, IsPlayingBy}
-use Rattle.dash_loopers.specs.Played.{HasRunAll}
+use Rattle.dash_loopers.specs.Played.{HasAllFrames}
 use Rattle.dash_loopers.specs.Loopers.{IsSoundOn, setting_for, is_disposal}
 
 -- ---- the calls of a sender, as entries are added
@@ -82,7 +82,7 @@ nanos_rise a b le = omega (arith, le)
 
 -- more entries
 pub runs_later : (s : Script) (q : ℕ) (es more : List Entry) (acts : List Act) (p : Pass) (awaits : Bool) (frames : List FrameAt)
-    → (IsSoundOn s q es → HasRunAll s es acts p awaits frames) → IsSoundOn s q (es ++ more) → HasRunAll s (es ++ more) acts p awaits frames
+    → (IsSoundOn s q es → HasAllFrames s es acts p awaits frames) → IsSoundOn s q (es ++ more) → HasAllFrames s (es ++ more) acts p awaits frames
 runs_later s q es more acts p awaits frames ran sound =
     let was = ran (sound_front s q es more sound) in
     let b : Base = empty_base (sender_count s) in

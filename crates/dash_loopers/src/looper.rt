@@ -2,7 +2,7 @@
 ghost use Rattle.std.specs.Prelude.{◌≡◌, ◌≢◌, ◌+◌, ◌<◌, true, false, IfOk};
 ghost use Rattle.looper_run.specs.Round.{is_ended};
 ghost use Rattle.dash_hall.specs.Kits.{IsHall, IsKitOf, IsUnusedKit};
-ghost use Rattle.dash_loopers.specs.Loopers.{ComesToWait, IsLooper, IsLooperOf, ArePartsOf, HasRunLockstep, is_given_up, until_of, MayWork, IsLooperStill};
+ghost use Rattle.dash_loopers.specs.Loopers.{ComesToWait, IsLooper, IsLooperOf, ArePartsOf, HasRunInLockstep, is_given_up, until_of, MayWork, IsLooperStill};
 ghost use Rattle.dash_loopers.specs.Players.{AreSameParts, RingsMain};
 ghost use Rattle.dash_loopers.specs.Played.{HasPlayed};
 ghost use Rattle.dash_loopers.specs.Ends.{IsNewLooper, HandsOutKit, IsToldBy};
@@ -119,7 +119,7 @@ impl StageLooper {
     )
         requires may { MayWork true script.now hall.now self.old }
         ensures still { IsLooperStill script.now hall.now self.old self.new }
-        ensures round { HasRunLockstep script.now now self.old self.new }
+        ensures round { HasRunInLockstep script.now now self.old self.new }
         ensures waits { ComesToWait script.now self.old self.new }
         ensures plays { HasPlayed script.now now self.old self.new }
     {

@@ -5,7 +5,7 @@ use Rattle.looper_run.specs.Holding.{Sender}
 use Rattle.dash_hall.specs.declared.hall.Hall.{Hall}
 use Rattle.dash_hall.specs.Growth.{own, QuitsOf}
 use Rattle.dash_loopers.specs.declared.looper.StageLooper.{StageLooper}
-use Rattle.dash_loopers.specs.Loopers.{HasRunLockstep}
+use Rattle.dash_loopers.specs.Loopers.{HasRunInLockstep}
 use Rattle.dash_stage.specs.declared.control.Controller.{Controller}
 use Rattle.dash_stage.specs.Controllers.{IsControllerIn, TurnsAlone, AtPoster}
 
@@ -50,7 +50,7 @@ HaveBeenRung n before after = (q : ℕ) (d : Sender) → q < n → rings before 
 -- each looper but the main one has run a round at this moment
 abbrev pub OthersHaveRun : Script → ℕ → List StageLooper → List StageLooper → Type 0
 OthersHaveRun s now before after =
-    (k : ℕ) (d : StageLooper) → 0 < k → k < length before → HasRunLockstep s now (slice_index_or before k d) (slice_index_or after k d)
+    (k : ℕ) (d : StageLooper) → 0 < k → k < length before → HasRunInLockstep s now (slice_index_or before k d) (slice_index_or after k d)
 
 -- a queue was quit at this moment by one call, which may have been refused, unless memory ran out; no bell was rung
 pub record QuitsNow (safe : Bool) (now : ℕ) (s : Script) (hall : Hall) (place : ℕ) (before after : Controller) (done : Bool) : Type 0 where

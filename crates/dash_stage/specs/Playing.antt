@@ -12,7 +12,7 @@ use Rattle.run_model.specs.Control.{Before, befores, befores_from, Timing, At, I
 use Rattle.run_model.specs.Loopers.{LooperState, first_looper}
 use Rattle.run_model.specs.Parts.{sent_on}
 use Rattle.dash_loopers.specs.declared.looper.StageLooper.{StageLooper}
-use Rattle.dash_loopers.specs.Loopers.{HasRunLockstep}
+use Rattle.dash_loopers.specs.Loopers.{HasRunInLockstep}
 use Rattle.dash_loopers.specs.Played.{is_disposal, StandsBetweenRounds, HasPlayed, StandsBetweenLoops}
 use Rattle.dash_hall.specs.Kits.{AreUnseen}
 use Rattle.dash_stage.specs.declared.control.Controller.{Controller}
@@ -94,7 +94,7 @@ AreAtBlockIfSound s time st = AreSound s st.controller → AreAtBlock s time st
 
 -- the looper is as it was, or ran a round at this moment and played on
 abbrev pub PlaysOn : Script → ℕ → StageLooper → StageLooper → Type 0
-PlaysOn s now before after = (after ≡ before) ⊎ (HasRunLockstep s now before after × HasPlayed s now before after)
+PlaysOn s now before after = (after ≡ before) ⊎ (HasRunInLockstep s now before after × HasPlayed s now before after)
 
 -- a message is due on the queue, which is not over and whose clock is before this time
 pub record IsStuck (s : Script) (now : ℕ) (es : List Entry) : Type 0 where

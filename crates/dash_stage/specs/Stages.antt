@@ -62,8 +62,8 @@ abbrev pub HaveRunBy : Mode → Script → List Block → List PostingThread →
 HaveRunBy m s bs ts = (k : ℕ) (d : PostingThread) → k < length ts → IsUpTo m s (lines_of k bs) (slice_index_or ts k d)
 
 -- the same in lockstep
-abbrev pub HaveRunLockstep : Script → List Block → List PostingThread → Type 0
-HaveRunLockstep s bs ts = HaveRunBy in_lockstep s bs ts
+abbrev pub HaveRunInLockstep : Script → List Block → List PostingThread → Type 0
+HaveRunInLockstep s bs ts = HaveRunBy in_lockstep s bs ts
 
 -- each thread has run its lines of this block, where it comes next
 abbrev pub EachRunsBlock : Script → Block → List PostingThread → List PostingThread → Type 0

@@ -17,14 +17,14 @@ use Rattle.dash_stage.specs.GivingUp.{AreQuit, IsNudged, OthersHaveRun}
 use Rattle.dash_stage.specs.Moves.{AreMoved, MayBeMovedTo, IsAwaited}
 use Rattle.dash_stage.specs.Playing.{IsInStep, AreAtBlockIfSound, LiesAhead}
 use Rattle.dash_stage.specs.Sharing.{HaveSeenTheSame}
-use Rattle.dash_stage.specs.Stages.{IsStage, HaveRunLockstep}
+use Rattle.dash_stage.specs.Stages.{IsStage, HaveRunInLockstep}
 use Rattle.dash_stage.specs.Timeliness.{AreSound, AreTimelyUpTo, AreBy, AreRested, AreDue, NotLater, NotLaterThanWait, LooksUnlessEnded}
 use Rattle.dash_stage.specs.Turns.{HaveTakenTurns, AtTurn, IsTheSame}
 
 -- the threads have run these blocks, the histories are timely up to them, the stage is in step, the queues were moved together, and the choreographers asked in
 -- turn
 pub record StageAt (s : Script) (past : List Block) (st : Stage) : Type 0 where
-  pub run : HaveRunLockstep s past st.threads.items
+  pub run : HaveRunInLockstep s past st.threads.items
   pub timely : AreTimelyUpTo s past st
   pub step : IsInStep s st
   pub moves : AreMoved s st.controller

@@ -5,7 +5,7 @@ use Rattle.dash_script.specs.declared.script.Script.{Script}
 use Rattle.looper_run.specs.Round.{is_ended}
 use Rattle.dash_hall.specs.declared.hall.Hall.{Hall}
 use Rattle.dash_hall.specs.Hearing.{HaveHeard}
-use Rattle.dash_loopers.specs.Loopers.{LooperKeeps, IsLooper, HasRunLockstep, ComesToWait}
+use Rattle.dash_loopers.specs.Loopers.{LooperKeeps, IsLooper, HasRunInLockstep, ComesToWait}
 use Rattle.dash_stage.specs.Playing.{PlaysOn, EachPlaysOn}
 use Rattle.dash_stage.specs.Stages.{AreLoopers, LoopersGoOn}
 use Rattle.dash_stage.specs.declared.side.Turn.{Turn}
@@ -36,7 +36,7 @@ abbrev pub RunsInTurn : Turn → Script → Hall → ℕ → StageLooper → Sta
 RunsInTurn turn s hall now before after = IsLooper s hall after × (after.number ≡ before.number)
     × (is_ended before.last ≡ true → is_ended after.last ≡ true)
     × (has_turn turn before.number ≡ true → ComesToWait s before after)
-    × (has_turn turn before.number ≡ true → HasRunLockstep s now before after)
+    × (has_turn turn before.number ≡ true → HasRunInLockstep s now before after)
     × (has_turn turn before.number ≡ false → after ≡ before)
     × PlaysOn s now before after
 
@@ -49,6 +49,6 @@ pub record HaveTakenTurns (turn : Turn) (before after : List StageLooper) : Type
 pub record HaveRunRound (turn : Turn) (s : Script) (hall : Hall) (now : ℕ) (before after : List StageLooper) : Type 0 where
   pub loopers : AreLoopers s hall after
   pub waits : AtTurn turn true (ComesToWait s) before after
-  pub rounds : AtTurn turn true (HasRunLockstep s now) before after
+  pub rounds : AtTurn turn true (HasRunInLockstep s now) before after
   pub others : AtTurn turn false IsTheSame before after
   pub plays : EachPlaysOn s now before after

@@ -36,7 +36,8 @@ pub record RunsUnlessGivenUp (s : Script) (h : Hall) (before after : PostingThre
   pub stays : before.gave_up ≡ true → after ≡ before
 
 -- so it is, and unless it has given up the thread did this, and came to the gate once for each of these lines
-pub record RunsLines (s : Script) (h : Hall) (lines : List TimedCommand) (Did : PostingThread → PostingThread → Type 0) (before after : PostingThread) : Type 0 where
+pub record RunsLines (s : Script) (h : Hall) (lines : List TimedCommand) (Did : PostingThread → PostingThread → Type 0) (before after : PostingThread)
+    : Type 0 where
   pub runs : RunsUnlessGivenUp s h before after
   pub made : after.gave_up ≡ false → Did before after
   pub passed : HasPassed lines before after

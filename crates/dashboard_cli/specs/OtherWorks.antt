@@ -17,7 +17,7 @@ use Rattle.run_model.specs.Run.{IsStaged}
 use Rattle.inbox_queue.specs.Bad.{bad_line}
 use Rattle.inbox_queue.specs.declared.run.InboxReport.{InboxReport}
 use Rattle.inbox_queue.specs.InboxRun.{IsInboxRun}
-use Rattle.dashboard_cli.specs.Works.{limit, Input, Says, Writes, returns_nothing, only_report}
+use Rattle.dashboard_cli.specs.Works.{limit, Input, Says, Writes, nothing_returned, only_report}
 use Rattle.dashboard_cli.specs.declared.making.Returned.{Returned}
 use Rattle.dashboard_cli.specs.declared.status.Cause.TheVariants as cause
 use Rattle.dashboard_cli.specs.declared.status.Status.{Status}
@@ -64,7 +64,7 @@ no_input = record { most = None; Takes = λ input. Unit {0}; Refuses = λ input 
 
 -- the script that is read is brought on by this step, and written
 abbrev pub Prints : (List ℕ → ScriptData → Type 0) → (ScriptData → ScriptData) → List ℕ → List ℕ → Returned → Type 0
-Prints Reads step = Writes Reads (λ read came. came ≡ step read) script_text (λ came. returns_nothing)
+Prints Reads step = Writes Reads (λ read came. came ≡ step read) script_text (λ came. nothing_returned)
 
 -- the script is the generator's of this number, whatever the input
 abbrev pub IsGenerated : ℕ → List ℕ → ScriptData → Type 0
@@ -97,7 +97,7 @@ abbrev pub WritesHistories : List ℕ → List ℕ → Returned → Type 0
 WritesHistories = Writes IsScriptText IsStaged histories_text only_report
 
 abbrev pub Checks : List ℕ → List ℕ → Returned → Type 0
-Checks = Writes IsTraceText (λ trace. IsVerdict trace.queues) verdict_text (λ verdict. returns_nothing)
+Checks = Writes IsTraceText (λ trace. IsVerdict trace.queues) verdict_text (λ verdict. nothing_returned)
 
 abbrev pub Animates : List ℕ → List ℕ → Returned → Type 0
 Animates = Writes IsPlanText RunsValues (λ made. made.0) (λ made. only_frames made.1)

@@ -59,8 +59,8 @@ pub record Writes {X R : Type 0} (Reads : List ℕ → X → Type 0) (Comes : X 
   pub given_is : given ≡ kept came
 
 -- what is returned beside a text: nothing, or a report
-abbrev pub returns_nothing : Returned
-returns_nothing = record { report = None; frames = None; inbox = None }
+abbrev pub nothing_returned : Returned
+nothing_returned = record { report = None; frames = None; inbox = None }
 
 abbrev pub only_report : Report → Returned
 only_report report = record { report = Some report; frames = None; inbox = None }

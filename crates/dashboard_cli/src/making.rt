@@ -43,11 +43,11 @@ pub(crate) struct Returned {
 
 impl Returned {
     ghost use Rattle.std.specs.Prelude.{◌≡◌};
-    ghost use Rattle.dashboard_cli.specs.Works.{returns_nothing, only_report};
+    ghost use Rattle.dashboard_cli.specs.Works.{nothing_returned, only_report};
     ghost use Rattle.dashboard_cli.specs.OtherWorks.{only_frames, only_inbox};
 
     pub(crate) fn nothing() -> Returned
-        ensures { result ≡ returns_nothing }
+        ensures { result ≡ nothing_returned }
     {
         Returned {
             report: None,

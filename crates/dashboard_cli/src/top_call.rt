@@ -4,7 +4,7 @@ ghost use Rattle.loop_io.specs.Causes.{Rose};
 ghost use Rattle.dashboard_cli.specs.Answers.{is_refusal, writes_nothing, AllOf, Completes, CountsReads, CountsWrites, IsCommandWith, IsRefused, IsTooLong};
 ghost use Rattle.dashboard_cli.specs.Answers.{ReadsAtMost, WritesWholeAtOk, WritesFrontAtFault, returned};
 ghost use Rattle.dashboard_cli.specs.Words.{work, texts, IsListed};
-ghost use Rattle.dashboard_cli.specs.Works.{returns_nothing};
+ghost use Rattle.dashboard_cli.specs.Works.{nothing_returned};
 
 use crate::making::{Returned, produce};
 use crate::status::Status;
@@ -79,7 +79,7 @@ pub fn dashboard<
     ensures broken_off { WritesFrontAtFault (C.shows clock.now) (texts words.now)
         (S.left source.old) (S.left source.new) (K.holds sink.old) (K.holds sink.new) result }
     ensures nothing { IsTrue (writes_nothing result.status) → sink.new ≡ sink.old }
-    ensures none_returned { IsTrue (writes_nothing result.status) → returned result ≡ returns_nothing }
+    ensures none_returned { IsTrue (writes_nothing result.status) → returned result ≡ nothing_returned }
 
     // A fault is answered exactly where the object has counted one in this call.
     ensures reads { CountsReads result.status (S.faults source.old) (S.faults source.new) }

@@ -137,7 +137,7 @@ pub record IsRun (m : Mode) (s : Script) (r : Report) : Type 0 where
   pub loopers : EachLooper (IsLooperRun m s r.queues) r.queues r.journals r.frames
   pub timely : AreTimelyOf m s r
 
--- the report is a run of the script in lockstep, and on each queue the threads' calls come first at the time of their block, and main comes to each block
+-- a run in lockstep, where on each queue threads' calls come first at their block's time, or behind its disposal, and main comes to each block but one at 0
 pub record IsStaged (s : Script) (r : Report) : Type 0 where
   pub run : IsRun in_lockstep s r
   pub blocks : AreBlocksFirst s r.queues

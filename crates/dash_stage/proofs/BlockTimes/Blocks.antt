@@ -9,7 +9,7 @@ use Rattle.run_model.specs.Parts.{lines_in}
 use Rattle.dash_threads.specs.declared.thread.PostingThread.{PostingThread}
 use Rattle.run_model.specs.Moments.{in_lockstep}
 use Rattle.dash_threads.specs.Threads.{IsUpTo}
-use Rattle.dash_stage.specs.Stages.{HaveRunLockstep, EachRunsBlock}
+use Rattle.dash_stage.specs.Stages.{HaveRunInLockstep, EachRunsBlock}
 
 module _ (bs : List Block) (i : ℕ) (b : Block) (lt : i < length bs) (is : b ≡ slice_index_or bs i b) where
   -- the blocks before, this one and those behind it are all
@@ -26,7 +26,7 @@ lines_more k past b = flat_map_more (lines_in k) [] past b
 
 -- the threads have run one block more
 pub run_one_more : (s : Script) (past rest : List Block) (b : Block) → past ++ b ∷ rest ≡ s.blocks → (ts ts' : List PostingThread)
-    → ((k : ℕ) (d : PostingThread) → k < length ts → (slice_index_or ts k d).number ≡ k) → length ts' ≡ length ts → EachRunsBlock s b ts ts' → HaveRunLockstep s past ts → HaveRunLockstep s (past ++ b ∷ []) ts'
+    → ((k : ℕ) (d : PostingThread) → k < length ts → (slice_index_or ts k d).number ≡ k) → length ts' ≡ length ts → EachRunsBlock s b ts ts' → HaveRunInLockstep s past ts → HaveRunInLockstep s (past ++ b ∷ []) ts'
 run_one_more s past rest b whole ts ts' numbers long on run = λ k d below.
     let lt = subst (λ n. k < n) long below in
     let t = slice_index_or ts k d in

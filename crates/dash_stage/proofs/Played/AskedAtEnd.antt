@@ -16,14 +16,14 @@ use Rattle.dash_loopers.specs.Loopers.{LooperRest, rest_in}
 use Rattle.dash_loopers.specs.Played.{StandsBy, StandsBetweenRounds}
 use Rattle.dash_stage.specs.declared.stage.Stage.{Stage}
 use Rattle.dash_stage.specs.Asking.{AskUpToNow}
-use Rattle.dash_stage.specs.Stages.{IsStage, HaveRunLockstep}
+use Rattle.dash_stage.specs.Stages.{IsStage, HaveRunInLockstep}
 use Rattle.dash_stage.specs.Timeliness.{AreSound}
 use Rattle.dash_stage.proofs.Ends.HallEnds.{some_of}
 use Rattle.dash_stage.proofs.Played.Asked.{HasAskedInTurn}
 use Rattle.dash_stage.proofs.Played.InTurn.{in_controller, looper_made, idle_made, thread_asked}
 use Rattle.dash_stage.proofs.Sharing.LooperShares.{looper_parts}
 
-module _ (s : Script) (st : Stage) (is : IsStage s st) (run : HaveRunLockstep s s.blocks st.threads.items) (sound : AreSound s st.controller) (now : AskUpToNow s s.blocks st) where
+module _ (s : Script) (st : Stage) (is : IsStage s st) (run : HaveRunInLockstep s s.blocks st.threads.items) (sound : AreSound s st.controller) (now : AskUpToNow s s.blocks st) where
   pub asked_at_end : (k : ℕ) (l : StageLooper) → k < length st.loopers.items → (a : LooperState) → StandsBetweenRounds s (slice_index_or st.loopers.items k l) a → (p : Pass)
       → HasAskedInTurn s k (slice_index_or st.controller.kit.frames.items k p) a
   asked_at_end k l lt a come p =

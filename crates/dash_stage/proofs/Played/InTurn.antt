@@ -34,7 +34,7 @@ use Rattle.dash_stage.specs.declared.stage.Stage.{Stage}
 use Rattle.dash_stage.specs.Asking.{AllAskedInTurn, AskInTurn, AskUpToNow}
 use Rattle.dash_stage.specs.Playing.{LiesAhead}
 use Rattle.dash_stage.specs.Sharing.{OfPasses, AreUnheard, HaveHeardNothing, HavePassesHeard, HaveHeardTheSame}
-use Rattle.dash_stage.specs.Stages.{IsStage, HaveRunLockstep}
+use Rattle.dash_stage.specs.Stages.{IsStage, HaveRunInLockstep}
 use Rattle.dash_stage.specs.Timeliness.{AreSound}
 use Rattle.dash_stage.proofs.Ends.HallEnds.{some_of}
 use Rattle.dash_stage.proofs.Sharing.LooperShares.{looper_parts}
@@ -139,7 +139,7 @@ module _ (s : Script) (st : Stage) (is : IsStage s st) (q : ℕ) (few : q < s.lo
         (λ behind. ap (λ (l : List (ℕ × FrameEntry)). dealt_to k l) (sym h.1) ∙ h.0.numbers key (ap (λ (b : FrameBadge). b.constants) badge) k (omega (arith, passes, le, behind)))
 
     -- a thread that has run its lines of these blocks asked for what they ask for
-    pub thread_asked : (past : List Block) → HaveRunLockstep s past st.threads.items → (k : ℕ) (t : PostingThread) → k < length st.threads.items
+    pub thread_asked : (past : List Block) → HaveRunInLockstep s past st.threads.items → (k : ℕ) (t : PostingThread) → k < length st.threads.items
         → HaveHeardAllAt q made (slice_index_or st.threads.items k t).kit.frames.items → asks_in (dealt_to k made) ≡ lines_ask q (lines_of k past)
     thread_asked past run k t lt heard =
         let ps = (slice_index_or st.threads.items k t).kit.frames.items in
@@ -239,7 +239,7 @@ module _ (s : Script) (st st' : Stage) (is : IsStage s st) (is' : IsStage s st')
           ∙ (((threads.each k t near).frames.each q p within).same.own ∙ sym (thread_made s st is q few made k t p near (heard k t near)))
 
   -- where the threads ran a block, what its lines ask for was asked in turn
-  pub asks_in_block : (past : List Block) (b : Block) → HaveRunLockstep s past st.threads.items → HaveRunLockstep s (past ++ b ∷ []) st'.threads.items → AskInTurn s past (in_block b.time) st
+  pub asks_in_block : (past : List Block) (b : Block) → HaveRunInLockstep s past st.threads.items → HaveRunInLockstep s (past ++ b ∷ []) st'.threads.items → AskInTurn s past (in_block b.time) st
       → AskInTurn s (past ++ b ∷ []) (in_block b.time) st'
   asks_in_block past b run run' h = record {
     same = same';

@@ -34,7 +34,7 @@ use Rattle.dash_loopers.specs.declared.view_root.ViewRoot.{ViewRoot}
 use Rattle.dash_loopers.specs.declared.looper.StageLooper.{StageLooper}
 use Rattle.dash_loopers.specs.Players.{PlaceWithout}
 use Rattle.dash_loopers.specs.Loopers.{IsLooper, IsSoundOn, LooperRest, LooperKeeps, posters_of, others_in, rest_in, is_disposal}
-use Rattle.dash_loopers.specs.Played.{calls_in, IsRootOf, IsShown, IsPlayed, IsUpTo, StandsBy, StandsBetweenRounds, StandsBetweenLoops}
+use Rattle.dash_loopers.specs.Played.{calls_in, IsRootOf, IsShown, IsPlayed, HasSeenUpTo, StandsBy, StandsBetweenRounds, StandsBetweenLoops}
 use Rattle.dash_stage.specs.declared.stage.Stage.{Stage}
 use Rattle.dash_stage.specs.Stages.{IsStage}
 use Rattle.dash_stage.specs.Sharing.{HaveSeenTheSame}
@@ -111,7 +111,7 @@ stands_heard {lockstep} s q k es es' acts parts parts' did a more calls frames c
       let has = st.latest_is in
       record {
         up_to = later_quietly (nanos_of (clock (empty_base (sender_count s)) es')) parts.frames.view.seen parts'.frames.view.seen (frames.same.quiet has.key has.constants has.alone)
-            (subst (λ (l : List Entry). IsUpTo (nanos_of (clock (empty_base (sender_count s)) l)) parts.frames) more.1 was.up_to);
+            (subst (λ (l : List Entry). HasSeenUpTo (nanos_of (clock (empty_base (sender_count s)) l)) parts.frames) more.1 was.up_to);
         pulses = was.pulses;
       };
   played = record {

@@ -32,7 +32,7 @@ use Rattle.dash_hall.specs.Growth.{own}
 use Rattle.dash_stage.specs.Controllers.{are_advances, IsMoving}
 use Rattle.dash_threads.specs.Threads.{IsUpTo, HasCalled, ThreadKeeps}
 use Rattle.dash_loopers.specs.Loopers.{IsSoundOn, is_disposal, setting_for, is_given_up, LooperKeeps}
-use Rattle.dash_stage.specs.Stages.{IsStage, HaveRunLockstep, EachRunsBlock, LoopersGoOn}
+use Rattle.dash_stage.specs.Stages.{IsStage, HaveRunInLockstep, EachRunsBlock, LoopersGoOn}
 use Rattle.dash_hall.specs.Hearing.{AtEach, HaveHeard}
 use Rattle.dash_stage.specs.Sharing.{HaveSeenTheSame}
 use Rattle.dash_stage.specs.Timeliness.{whole_on, AreSound, IsTimelyUpTo, AreTimelyUpTo, TurnsOn, EachTurnsOn, HasHaltedLast}
@@ -139,7 +139,7 @@ only_threads s st st' is is' same same' kept heard q d lt k known above = dite (
     subst (λ (m : ℕ). entries_by m (whole_on st'.controller q d) ≡ entries_by m (whole_on st.controller q d)) at (looper_made_none s st st' is is' same same' kept heard.long q (k - s.threads) d lt looper))
 
 -- the next block, which the threads have run at its time, where the controller has only moved the time so far
-pub block_timely : (s : Script) (st st' : Stage) (b : Block) (past rest : List Block) → past ++ b ∷ rest ≡ s.blocks → IsTrue (times_rise s.blocks) → IsMoving s st.controller → IsStage s st → IsStage s st' → HaveRunLockstep s past st.threads.items → HaveRunLockstep s (past ++ b ∷ []) st'.threads.items
+pub block_timely : (s : Script) (st st' : Stage) (b : Block) (past rest : List Block) → past ++ b ∷ rest ≡ s.blocks → IsTrue (times_rise s.blocks) → IsMoving s st.controller → IsStage s st → IsStage s st' → HaveRunInLockstep s past st.threads.items → HaveRunInLockstep s (past ++ b ∷ []) st'.threads.items
     → AtEach (LooperKeeps HaveHeard) st.loopers.items st'.loopers.items → HaveHeard st.controller.kit.posters.items st'.controller.kit.posters.items → HaveSeenTheSame st' → (AreSound s st.controller → AreAtBlock s b.time st)
     → AreTimelyUpTo s past st → AreTimelyUpTo s (past ++ b ∷ []) st'
 block_timely s st st' b past rest next rising moving is is' run run' kept heard same' at timely = record {
