@@ -51,10 +51,10 @@ made loop_next_c
 made countdown_c countdown
 made animator_c countdown animator
 
-# build COMPILER SANITIZER NAME: one example, with its heap, at $program
+# build COMPILER SANITIZER NAME TOOL: one example, with its heap, at $program; jobs run beside each other, so each has a program of its own
 build() {
     local flags=() heap=("$here/heap.c") others=()
-    program=$out/$1-$2-$3
+    program=$out/$1-$2-$3-$4
     [ "$2" = none ] || flags=("-fsanitize=$2")
     case $3 in
     no_memory | misuse) heap=() ;;
@@ -66,13 +66,13 @@ build() {
 }
 
 run_one() {
-    build "$1" "$2" "$3"
+    build "$1" "$2" "$3" plain
     "$program" "$steps" >"$program.txt"
 }
 
 # under TOOL NAME: one example under a tool of valgrind's
 under() {
-    build "${compilers[0]}" none "$2"
+    build "${compilers[0]}" none "$2" "$1"
     local flags=()
     [ "$1" != memcheck ] || flags=(--leak-check=full --show-leak-kinds=all)
     valgrind -q "--tool=$1" --error-exitcode=9 ${flags[@]+"${flags[@]}"} "$program" 5000 >"$program.txt"

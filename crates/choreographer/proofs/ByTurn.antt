@@ -8,7 +8,7 @@ use Rattle.frame_phases.specs.declared.entry.Beginning.{Beginning}
 use Rattle.frame_phases.specs.declared.entry.Beginning.TheVariants as begin
 use Rattle.frame_phases.specs.Frames.{next_phase}
 use Rattle.frame_phases.specs.State.{Frames, BeginsBy, Seals}
-use Rattle.choreographer.specs.declared.kept.Kept.{Kept}
+use Rattle.choreographer.specs.declared.state.StampedFrames.{StampedFrames}
 use Rattle.choreographer.specs.declared.view.Constants.{Constants}
 use Rattle.choreographer.specs.declared.view.Progress.{Progress}
 use Rattle.choreographer.specs.declared.view.View.{View}
@@ -34,7 +34,7 @@ delivers v key n own_key named only =
     (λ i. delivers_by (own_key i) (only i)) ∙ (ap (λ (o : Option ℕ). option_map_or (λ m. nat_lt 0 (count_of m (n ∷ []))) o false) named ∙ ap (nat_lt 0) one)
 
 -- a pass that took the turn, found x, and gave the turn back with y
-one_turn : (key : Constants) (before after : Pass) (x y : Kept) (made : List (ℕ × FrameEntry)) → after.table ≡ before.table → after.number ≡ before.number
+one_turn : (key : Constants) (before after : Pass) (x y : StampedFrames) (made : List (ℕ × FrameEntry)) → after.table ≡ before.table → after.number ≡ before.number
     → after.view ≡ giving (taking before.view x made) y → before.view.constants ≡ Some key → HasConstants key x → HasConstants key y → FoundBy before.view x
     → IsPrefix x.frames.entries y.frames.entries → FoundPulse key before.view x → before.view.passes ≡ before.number ∷ [] → HearsTurn before after x y → IsFrameTurn before after x y
 one_turn key before after x y made table number is own_key of_x of_y found grows latest only hears = record {
@@ -64,7 +64,7 @@ one_turn key before after x y made table number is own_key of_x of_y found grows
 }
 
 -- so it is by the two steps of its seat: s is what it knew as it took the turn, and t once it gave it back
-pub turned : (key : Constants) (inside now after : Pass) (x y : Kept) (s t : Sat) → inside ≡ now → now.view.constants ≡ Some key → inside.view.passes ≡ inside.number ∷ [] → HasOwn inside.view
+pub turned : (key : Constants) (inside now after : Pass) (x y : StampedFrames) (s t : Sat) → inside ≡ now → now.view.constants ≡ Some key → inside.view.passes ≡ inside.number ∷ [] → HasOwn inside.view
     → s ≡ (taking inside.view x s.0.heard, (0, None) ∷ []) → HasConstants key x × FoundBy inside.view x → FoundHeard inside.view x s.0.heard → FoundPulse key inside.view x → HasConstants key y
     → IsPrefix x.frames.entries y.frames.entries → t ≡ (giving s.0 y, []) × HasOwn t.0 → after ≡ record { table = inside.table; number = inside.number; view = t.0 } → IsFrameTurn now after x y
 turned key inside now after x y s t same own_key one own took found hears latest of_y grows gave is =
@@ -75,7 +75,7 @@ turned key inside now after x y s t same own_key one own took found hears latest
     (one_turn key inside b x y made refl refl view (ap (λ (p : Pass). p.view.constants) same ∙ own_key) found.0 of_y found.1 grows latest one (turn_hears inside b x y made one own hears refl view gave.1))
 
 -- a seat that gives back what it may still has its own
-pub own_given : (key : Constants) (v : View) (x : Kept) → v.constants ≡ Some key → HasOwn v → IsPrefix v.seen x.frames.entries → MaySeal key v x → HasOwn (giving v x)
+pub own_given : (key : Constants) (v : View) (x : StampedFrames) → v.constants ≡ Some key → HasOwn v → IsPrefix v.seen x.frames.entries → MaySeal key v x → HasOwn (giving v x)
 own_given key v x own_key own more seals = record {
   part = ap (map (λ part. part ++ drop (length v.seen) x.frames.entries)) own.part;
   heard = heard_given v x own;
@@ -90,16 +90,16 @@ own_given key v x own_key own more seals = record {
 }
 
 -- where nothing was handed out, the state may be given back
-pub keeps_handed : (key : Constants) (v : View) (x y : Kept) (made : List (ℕ × FrameEntry)) → HasSameConstants x y → MaySeal key (taking v x made) y
+pub keeps_handed : (key : Constants) (v : View) (x y : StampedFrames) (made : List (ℕ × FrameEntry)) → HasSameConstants x y → MaySeal key (taking v x made) y
 keeps_handed key v x y made same = let long = ap length same.3 in (omega (arith, long), λ _. long)
 
 -- where the stamp stays, whether a frame is to begin, and a pulse that is asked for, and callbacks are posted and removed alone, the state may be given back
-pub keeps_pulse : (key : Constants) (v : View) (x y : Kept) (s : Sat) → s ≡ (taking v x s.0.heard, (0, None) ∷ []) → y.stamp ≡ x.stamp → KeepsWait x y → AsksIfScheduled key x
+pub keeps_pulse : (key : Constants) (v : View) (x y : StampedFrames) (s : Sat) → s ≡ (taking v x s.0.heard, (0, None) ∷ []) → y.stamp ≡ x.stamp → KeepsWait x y → AsksIfScheduled key x
     → GrowsQuietly x.frames.entries y.frames.entries → MayPulse key s.0 y
 keeps_pulse key v x y s took stamp waits asks quiet = subst (λ (z : Sat). MayPulse key z.0 y) (sym took) (λ n named elsewhere. (stamp, waits.awaits, quiet, waits.asked key asks n named))
 
 -- the seat of the pass that alone delivers pulses may change it
-pub may_pulse : (key : Constants) (v : View) (x y : Kept) (made : List (ℕ × FrameEntry)) (number : ℕ) → v.passes ≡ number ∷ [] → ((n : ℕ) → key.pulses ≡ Some n → number ≡ n) → MayPulse key (taking v x made) y
+pub may_pulse : (key : Constants) (v : View) (x y : StampedFrames) (made : List (ℕ × FrameEntry)) (number : ℕ) → v.passes ≡ number ∷ [] → ((n : ℕ) → key.pulses ≡ Some n → number ≡ n) → MayPulse key (taking v x made) y
 may_pulse key v x y made number only mine = λ n named elsewhere.
     let is = mine n named in
     let here : cond {A = ℕ} (eqb number n) 1 0 ≡ 1 = ap (λ b. cond {A = ℕ} b 1 0) (eq-eqb number n is) in
@@ -113,12 +113,12 @@ holds_last key v number only last =
     ap (count_of (last_of key)) only ∙ omega (arith, here)
 
 -- its seat may hand entries out
-pub may_seal : (key : Constants) (v : View) (x y : Kept) (made : List (ℕ × FrameEntry)) (number : ℕ) → v.passes ≡ number ∷ [] → number + 1 ≡ key.passes → length x.frames.sealed ≤ length y.frames.sealed
+pub may_seal : (key : Constants) (v : View) (x y : StampedFrames) (made : List (ℕ × FrameEntry)) (number : ℕ) → v.passes ≡ number ∷ [] → number + 1 ≡ key.passes → length x.frames.sealed ≤ length y.frames.sealed
     → MaySeal key (taking v x made) y
 may_seal key v x y made number only last more = (more, λ no_last. absurd (let one = holds_last key v number only last in omega (arith, one, no_last)))
 
 -- a state with the entries that were found may be given back
-pub same_gives : (v : View) (x y : Kept) → v.seen ≡ x.frames.entries → y.frames.entries ≡ x.frames.entries → MayGive v y
+pub same_gives : (v : View) (x y : StampedFrames) → v.seen ≡ x.frames.entries → y.frames.entries ≡ x.frames.entries → MayGive v y
 same_gives v x y seen same =
     let all : v.seen ≡ y.frames.entries = seen ∙ sym same in
     (subst (IsPrefix v.seen) all (prefix_self v.seen), λ none f going. subst (GrowsQuietly v.seen) all (grows_self v.seen))
@@ -143,7 +143,7 @@ no_progress : (phases : ℕ) (entries : List FrameEntry) (f : Progress) → next
 no_progress phases entries f none e = let wrong : None ≡ Some f = ap (progress_of (begin_place (reverse entries))) (sym none) ∙ e in cc (wrong)
 
 -- what the beginning of a frame leaves may be given back
-pub begin_gives : (v : View) (x y : Kept) (start : ℕ) (answer : Beginning) → v.seen ≡ x.frames.entries → StepsBy x y → BeginsBy x.frames x.stamp start answer y.frames → MayGive v y
+pub begin_gives : (v : View) (x y : StampedFrames) (start : ℕ) (answer : Beginning) → v.seen ≡ x.frames.entries → StepsBy x y → BeginsBy x.frames x.stamp start answer y.frames → MayGive v y
 begin_gives v x y start answer seen steps begins = (
   subst (λ l. IsPrefix l y.frames.entries) (sym seen) steps.1,
   λ none f going. by_answer answer begins f (subst (λ (z : ℕ × List FrameEntry). progress z.0 z.1 ≡ Some f) (λ i. (steps.0.2 i, seen i)) going),

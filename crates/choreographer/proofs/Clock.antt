@@ -12,7 +12,7 @@ use Rattle.frame_phases.specs.Pulses.{is_stamp, comes_after, comes_after_if_any}
 use Rattle.frame_phases.specs.State.{Frames, BeginsBy, ran, delivered}
 use Rattle.frame_phases.proofs.History.{past-push, last_time-take}
 use Rattle.frame_phases.proofs.Rising.{time_rises, time_rises_after, take_at_most}
-use Rattle.choreographer.specs.declared.kept.Kept.{Kept}
+use Rattle.choreographer.specs.declared.state.StampedFrames.{StampedFrames}
 use Rattle.choreographer.specs.Frame.{IsQuiet}
 use Rattle.choreographer.specs.Turn.{is_moment_later, has_later, GoesWithClock, IsStamped}
 use Rattle.choreographer.specs.Calls.{IfBackwards}
@@ -81,7 +81,7 @@ delivered_comes_after stamp now (Some p) later = by_test (nat_le p now) where
   by_test false = refl
 
 -- where a frame would go back, the record that was found, which is all that is seen then, has a moment later than its start
-pub backs_late : (x y : Kept) (start : ℕ) (seen : List FrameEntry) (answer : Beginning) → IsStamped x → start < 2 ^ 64 → BeginsBy x.frames x.stamp start answer y.frames
+pub backs_late : (x y : StampedFrames) (start : ℕ) (seen : List FrameEntry) (answer : Beginning) → IsStamped x → start < 2 ^ 64 → BeginsBy x.frames x.stamp start answer y.frames
     → seen ≡ y.frames.entries → IfBackwards answer (has_later start seen ≡ true)
 backs_late x y start seen (begin.Began time) h fits b is = tt
 backs_late x y start seen (begin.Running next) h fits b is = tt

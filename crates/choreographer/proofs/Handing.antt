@@ -6,7 +6,7 @@ use Rattle.loop_model.specs.declared.memory.NoMemory.{NoMemory}
 use Rattle.loop_model.proofs.Prefixes.{prefix_self, prefix_trans, prefix_all, prefix_shorter}
 use Rattle.frame_phases.specs.declared.entry.FrameEntry.{FrameEntry}
 use Rattle.frame_phases.specs.State.{Frames}
-use Rattle.choreographer.specs.declared.kept.Kept.{Kept}
+use Rattle.choreographer.specs.declared.state.StampedFrames.{StampedFrames}
 use Rattle.choreographer.specs.Known.{Pass, IsFrameTurn}
 use Rattle.choreographer.specs.Calls.{SealedBy}
 use Rattle.choreographer.specs.Ends.{HasHandedOut}
@@ -17,7 +17,7 @@ same_beginning xs ys zs rest begins is long =
     prefix_all xs ys (prefix_shorter xs ys zs begins (rest, is) (omega (arith, long))) (omega (arith, long))
 
 -- a turn that hands nothing out
-pub hands_same : (before after : Pass) (x y : Kept) → IsFrameTurn before after x y → length y.frames.sealed ≤ length x.frames.sealed → (entries : List FrameEntry)
+pub hands_same : (before after : Pass) (x y : StampedFrames) → IsFrameTurn before after x y → length y.frames.sealed ≤ length x.frames.sealed → (entries : List FrameEntry)
     → HasHandedOut before entries → HasHandedOut after entries
 hands_same before after x y t same entries out =
     let handed = t.handed in

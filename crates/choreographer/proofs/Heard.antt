@@ -8,7 +8,7 @@ use Rattle.loop_model.specs.Lists.{longer}
 use Rattle.loop_model.proofs.Prefixes.{prefix_trans, prefix_all, longer_first, longer_second, longer_begins}
 use Rattle.frame_phases.specs.declared.entry.FrameEntry.{FrameEntry}
 use Rattle.frame_phases.specs.Parting.{dealt_to}
-use Rattle.choreographer.specs.declared.kept.Kept.{Kept}
+use Rattle.choreographer.specs.declared.state.StampedFrames.{StampedFrames}
 use Rattle.choreographer.specs.declared.view.Constants.{Constants}
 use Rattle.choreographer.specs.declared.view.View.{View}
 use Rattle.choreographer.specs.Turn.{HasParts, HasHeardOf, AreNumbersOf, AreQuietBut, made_entries, all_by, first_pass, taking, giving, joined}
@@ -51,11 +51,11 @@ part_behind made passes parts more n one is =
     ∙ ((λ i. sym (dealt_behind n made more) i ∷ []) ∙ ap (map (λ k. dealt_to k (made ++ all_by n more))) (sym one))
 
 -- a view with one pass that gives the turn back, by any list that has its parts
-pub parts_given : (made : List (ℕ × FrameEntry)) (v : View) (x : Kept) → length v.passes ≡ 1 → HasParts made v
+pub parts_given : (made : List (ℕ × FrameEntry)) (v : View) (x : StampedFrames) → length v.passes ≡ 1 → HasParts made v
     → HasParts (made ++ all_by (first_pass v) (drop (length v.seen) x.frames.entries)) (giving v x)
 parts_given made v x one is = part_behind made v.passes v.parts (drop (length v.seen) x.frames.entries) (get_or v.passes 0 0) (only_first v.passes one) is
 
-pub entries_given : (v : View) (x : Kept) → made_entries v.heard ≡ v.seen → IsPrefix v.seen x.frames.entries → made_entries (giving v x).heard ≡ x.frames.entries
+pub entries_given : (v : View) (x : StampedFrames) → made_entries v.heard ≡ v.seen → IsPrefix v.seen x.frames.entries → made_entries (giving v x).heard ≡ x.frames.entries
 entries_given v x is p =
     let n : ℕ = get_or v.passes 0 0 in
     let new : List FrameEntry = drop (length v.seen) x.frames.entries in
@@ -89,13 +89,13 @@ one_pass v own =
     omega (arith, a, b)
 
 -- a seat that wins the turn still has its own
-pub own_taken : (v : View) (x : Kept) (made : List (ℕ × FrameEntry)) → HasOwn v → FoundHeard v x made → HasOwn (taking v x made)
+pub own_taken : (v : View) (x : StampedFrames) (made : List (ℕ × FrameEntry)) → HasOwn v → FoundHeard v x made → HasOwn (taking v x made)
 own_taken v x made own found = record { part = own.part; heard = found.parts; seen = found.seen; below = own.below; numbers = found.numbers; handed = own.handed }
 
-pub heard_given : (v : View) (x : Kept) → HasOwn v → HasParts (giving v x).heard (giving v x)
+pub heard_given : (v : View) (x : StampedFrames) → HasOwn v → HasParts (giving v x).heard (giving v x)
 heard_given v x own = parts_given v.heard v x (one_pass v own) own.heard
 
-pub numbers_given : (v : View) (x : Kept) → HasOwn v → (c : Constants) → v.constants ≡ Some c → AreNumbersOf c (giving v x).heard
+pub numbers_given : (v : View) (x : StampedFrames) → HasOwn v → (c : Constants) → v.constants ≡ Some c → AreNumbersOf c (giving v x).heard
 numbers_given v x own c e n far =
     let one = one_pass v own in
     let below : get_or v.passes 0 0 < c.passes = own.below c e 0 0 (omega (arith, one)) in
@@ -131,7 +131,7 @@ no_more n passes xs ys begins one same =
     ∙ subst (λ (ps : List ℕ). get_or (map (λ k. dealt_to k ys) ps) 0 [] ≡ get_or (map (λ k. dealt_to k xs) ps) 0 []) one (ap (λ (l : List (List FrameEntry)). get_or l 0 []) same))
 
 -- a turn of a pass: what others recorded, and behind that what it recorded itself
-pub turn_hears : (before after : Pass) (x y : Kept) (made : List (ℕ × FrameEntry)) → before.view.passes ≡ before.number ∷ [] → HasOwn before.view → FoundHeard before.view x made
+pub turn_hears : (before after : Pass) (x y : StampedFrames) (made : List (ℕ × FrameEntry)) → before.view.passes ≡ before.number ∷ [] → HasOwn before.view → FoundHeard before.view x made
     → after.number ≡ before.number → after.view ≡ giving (taking before.view x made) y → HasOwn after.view → HearsTurn before after x y
 turn_hears before after x y made one own found number is own' =
     let none : dealt_to before.number found.begins.0 ≡ [] = no_more before.number before.view.passes before.view.heard made found.begins one (sym found.parts ∙ own.heard) in

@@ -8,7 +8,7 @@ use Rattle.frame_phases.specs.declared.entry.Callback.{Callback}
 use Rattle.frame_phases.specs.declared.entry.FrameEntry.{FrameEntry}
 use Rattle.frame_phases.specs.declared.entry.FrameEntry.TheVariants.{Posted, Removed, Begin, Take, Ran}
 use Rattle.frame_phases.specs.State.{Frames, ran}
-use Rattle.choreographer.specs.declared.kept.Kept.{Kept}
+use Rattle.choreographer.specs.declared.state.StampedFrames.{StampedFrames}
 use Rattle.choreographer.specs.declared.frame.Framed.{Framed}
 use Rattle.choreographer.specs.declared.frame.Framed.TheVariants.{Done, Elsewhere, Unscheduled, Backwards, NoMemory}
 use Rattle.choreographer.specs.Client.{Run}
@@ -28,7 +28,7 @@ use Rattle.choreographer.proofs.Recorded.{pulse_leaves, due_leaves}
 -- ---- what a turn comes to see
 
 -- what the pass had seen, postings and removals of others, and what it recorded itself
-turn_sees : (before after : Pass) (x y : Kept) (more : List FrameEntry) → IsFrameTurn before after x y → x.frames.entries ++ more ≡ y.frames.entries
+turn_sees : (before after : Pass) (x y : StampedFrames) (more : List FrameEntry) → IsFrameTurn before after x y → x.frames.entries ++ more ≡ y.frames.entries
     → IfAlone before ((others : List FrameEntry) × (before.view.seen ++ (others ++ more) ≡ after.view.seen) × IsQuiet others)
 turn_sees before after x y more turn is = λ c e named.
     let h = turn.hears in
@@ -43,7 +43,7 @@ turn_sees before after x y more turn is = λ c e named.
     )
 
 -- a turn that recorded nothing
-pub turn_quiet : (before after : Pass) (x y : Kept) → IsFrameTurn before after x y → y.frames.entries ≡ x.frames.entries → SeesQuietly before after
+pub turn_quiet : (before after : Pass) (x y : StampedFrames) → IsFrameTurn before after x y → y.frames.entries ≡ x.frames.entries → SeesQuietly before after
 turn_quiet before after x y turn same = λ c e named.
     let s = turn_sees before after x y [] turn (append-nil x.frames.entries ∙ sym same) c e named in
     (s.0, ap (λ l. before.view.seen ++ l) (sym (append-nil s.0)) ∙ s.1, s.2)
@@ -53,7 +53,7 @@ pulse_quiet before after is_moment sends sends' result t = turn_quiet before aft
 
 pub due_quiet : (before after : Pass) (is_moment : ℕ → Bool) (phase : ℕ) (result : Bool) → DueBy before after is_moment phase result → SeesQuietly before after
 due_quiet before after is_moment phase result t =
-    let d = t.2 in turn_quiet before after d.0 d.1 d.2 (ap (λ (z : Kept). z.frames.entries) d.4 ∙ due_leaves d.0 (known_by d.0 t.0) result)
+    let d = t.2 in turn_quiet before after d.0 d.1 d.2 (ap (λ (z : StampedFrames). z.frames.entries) d.4 ∙ due_leaves d.0 (known_by d.0 t.0) result)
 
 -- ---- no moment is later
 
@@ -97,12 +97,12 @@ later_then t u (e ∷ es) le none =
 abbrev pub StaysUpTo : ℕ → Pass → Pass → Type 0
 StaysUpTo t before after = IfAlone before (has_later t before.view.seen ≡ false → has_later t after.view.seen ≡ false)
 
-turn_up_to : (t : ℕ) (before after : Pass) (x y : Kept) (more : List FrameEntry) → IsFrameTurn before after x y → x.frames.entries ++ more ≡ y.frames.entries → has_later t more ≡ false → StaysUpTo t before after
+turn_up_to : (t : ℕ) (before after : Pass) (x y : StampedFrames) (more : List FrameEntry) → IsFrameTurn before after x y → x.frames.entries ++ more ≡ y.frames.entries → has_later t more ≡ false → StaysUpTo t before after
 turn_up_to t before after x y more turn is none = λ c e named was.
     let s = turn_sees before after x y more turn is c e named in
     subst (λ (l : List FrameEntry). has_later t l ≡ false) s.1 (later_both t before.view.seen (s.0 ++ more) was (later_both t s.0 more (later_quiet t s.0 s.2) none))
 
-same_up_to : (t : ℕ) (before after : Pass) (x y : Kept) → IsFrameTurn before after x y → y.frames.entries ≡ x.frames.entries → StaysUpTo t before after
+same_up_to : (t : ℕ) (before after : Pass) (x y : StampedFrames) → IsFrameTurn before after x y → y.frames.entries ≡ x.frames.entries → StaysUpTo t before after
 same_up_to t before after x y turn same = turn_up_to t before after x y [] turn (append-nil x.frames.entries ∙ sym same) refl
 
 -- ---- a frame

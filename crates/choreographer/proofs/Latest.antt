@@ -11,7 +11,7 @@ use Rattle.frame_phases.specs.declared.entry.Took.TheVariants as took
 use Rattle.frame_phases.specs.State.{Frames, delivered, TakesBy}
 use Rattle.frame_phases.specs.Pulses.{comes_after_if_any}
 use Rattle.choreographer.specs.Turn.{IsStamped, stamp_of, stamp_by, awaits_frame, awaits_by}
-use Rattle.choreographer.specs.declared.kept.Kept.{Kept}
+use Rattle.choreographer.specs.declared.state.StampedFrames.{StampedFrames}
 use Rattle.choreographer.specs.declared.view.View.{View}
 use Rattle.choreographer.specs.Client.{Run}
 use Rattle.choreographer.specs.Frame.{Batch}
@@ -28,13 +28,13 @@ abbrev pub Keeps : (View → ℕ) → Pass → Pass → Type 0
 Keeps share before after = IfAlone before (share after.view ≡ share before.view)
 
 -- where the pass alone delivers pulses, its turn found as much of a measure as it had, and it has what its turn left
-abbrev pub HasLeft : (Kept → ℕ) → (View → ℕ) → Pass → Pass → Kept → Kept → Type 0
+abbrev pub HasLeft : (StampedFrames → ℕ) → (View → ℕ) → Pass → Pass → StampedFrames → StampedFrames → Type 0
 HasLeft measure share before after x y = IfAlone before ((measure x ≡ share before.view) × (share after.view ≡ measure y))
 
 -- so it is with each turn, and a turn that takes a phase keeps the measure
-pub record GoesOn (measure : Kept → ℕ) (share : View → ℕ) : Type 0 where
-  pub turn : (before after : Pass) (x y : Kept) → IsFrameTurn before after x y → HasLeft measure share before after x y
-  pub taken : (x y : Kept) (phase now : ℕ) (result : Took) → TakesBy x.frames phase now result y.frames → y.stamp ≡ x.stamp → measure y ≡ measure x
+pub record GoesOn (measure : StampedFrames → ℕ) (share : View → ℕ) : Type 0 where
+  pub turn : (before after : Pass) (x y : StampedFrames) → IsFrameTurn before after x y → HasLeft measure share before after x y
+  pub taken : (x y : StampedFrames) (phase now : ℕ) (result : Took) → TakesBy x.frames phase now result y.frames → y.stamp ≡ x.stamp → measure y ≡ measure x
 
 pub stamp_goes_on : GoesOn stamp_of stamp_by
 stamp_goes_on = record { turn = λ before after x y turn. turn.stamp; taken = λ x y phase now result takes same. same }
@@ -43,25 +43,25 @@ pub awaits_goes_on : GoesOn awaits_frame awaits_by
 awaits_goes_on = record { turn = λ before after x y turn. turn.awaits; taken = λ x y phase now result takes same. (taken_waits x y phase now result takes).awaits }
 
 -- a turn that leaves as much as it found
-pub turn_keeps : (measure : Kept → ℕ) (share : View → ℕ) (before after : Pass) (x y : Kept) → HasLeft measure share before after x y → measure y ≡ measure x → Keeps share before after
+pub turn_keeps : (measure : StampedFrames → ℕ) (share : View → ℕ) (before after : Pass) (x y : StampedFrames) → HasLeft measure share before after x y → measure y ≡ measure x → Keeps share before after
 turn_keeps measure share before after x y has same = λ c e named. let s = has c e named in s.1 ∙ (same ∙ s.0)
 
-pub turn_same : (before after : Pass) (x y : Kept) → IsFrameTurn before after x y → IsSamePass before after
+pub turn_same : (before after : Pass) (x y : StampedFrames) → IsFrameTurn before after x y → IsSamePass before after
 turn_same before after x y turn = (turn.table, turn.number, turn.constants)
 
 pub keeps_trans : (share : View → ℕ) (before middle after : Pass) → IsSamePass before middle → Keeps share before middle → Keeps share middle after → Keeps share before after
 keeps_trans share before middle after same f g = λ c e named. g c (same.2 ∙ e) (named ∙ ap Some (sym same.1)) ∙ f c e named
 
 -- a turn that delivers the pulse that is asked for, if it came
-pub pulse_gets : (before after : Pass) (x y : Kept) (came : Option ℕ) → IsFrameTurn before after x y → y ≡ pulsed x came → GetsStamp before after came
-pulse_gets before after x y came turn is = λ c e named. let s = turn.stamp c e named in s.1 ∙ (ap (λ (z : Kept). z.stamp) is ∙ by_pulse came s.0)
+pub pulse_gets : (before after : Pass) (x y : StampedFrames) (came : Option ℕ) → IsFrameTurn before after x y → y ≡ pulsed x came → GetsStamp before after came
+pulse_gets before after x y came turn is = λ c e named. let s = turn.stamp c e named in s.1 ∙ (ap (λ (z : StampedFrames). z.stamp) is ∙ by_pulse came s.0)
   where
     by_pulse : (o : Option ℕ) → x.stamp ≡ before.view.stamp → (pulsed x o).stamp ≡ latest_stamp o before.view.stamp
     by_pulse None same = same
     by_pulse (Some stamp) same = refl
 
 -- such a pulse comes after the one before it
-pub pulse_comes_after : (before after : Pass) (x y : Kept) (now : ℕ) (came : Option ℕ) → IsFrameTurn before after x y → IsStamped x → came ≡ delivered x.frames.asked now → ComesAfter before came
+pub pulse_comes_after : (before after : Pass) (x y : StampedFrames) (now : ℕ) (came : Option ℕ) → IsFrameTurn before after x y → IsStamped x → came ≡ delivered x.frames.asked now → ComesAfter before came
 pulse_comes_after before after x y now came turn stamped is = λ c e named.
     subst (λ (z : ℕ × Option ℕ). comes_after_if_any z.0 z.1 ≡ true) (λ i. ((turn.stamp c e named).0 i, sym is i)) (delivered_comes_after x.stamp now x.frames.asked stamped.asked)
 
@@ -73,7 +73,7 @@ each_same phase [] before after same = (ap (λ (p : Pass). p.table) same, ap (λ
 each_same phase (b ∷ bs) before after (p, turn, rest) =
     let now = turn_same before p turn.0 turn.1 turn.2 in let later = each_same (phase + 1) bs p after rest in (later.0 ∙ now.0, later.1 ∙ now.1, later.2 ∙ now.2)
 
-module _ (measure : Kept → ℕ) (share : View → ℕ) (goes : GoesOn measure share) where
+module _ (measure : StampedFrames → ℕ) (share : View → ℕ) (goes : GoesOn measure share) where
   take_keeps : (before after : Pass) (phase now : ℕ) (result : Took) → TakeTurn before after phase now result → Keeps share before after
   take_keeps before after phase now result t =
       turn_keeps measure share before after t.0 t.1 (goes.turn before after t.0 t.1 t.2) (goes.taken t.0 t.1 phase now result t.3 t.4)

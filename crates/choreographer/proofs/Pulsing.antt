@@ -5,7 +5,7 @@ use Rattle.loop_model.specs.declared.memory.NoMemory.{NoMemory}
 use Rattle.frame_phases.specs.declared.entry.FrameEntry.{FrameEntry}
 use Rattle.frame_phases.specs.declared.entry.Beginning.TheVariants as begin
 use Rattle.frame_phases.specs.State.{delivered}
-use Rattle.choreographer.specs.declared.kept.Kept.{Kept}
+use Rattle.choreographer.specs.declared.state.StampedFrames.{StampedFrames}
 use Rattle.choreographer.specs.declared.view.Constants.{Constants}
 use Rattle.choreographer.specs.Turn.{AsksIfScheduled, awaits_frame, awaits_by}
 use Rattle.choreographer.specs.Known.{SharedFrames, Pass, IsPassOf, IfAlone, IsFrameTurn, MayBegin}
@@ -16,7 +16,7 @@ use Rattle.choreographer.proofs.Waits.{KeepsWait, removed_waits, due_waits, seal
 use Rattle.choreographer.proofs.Latest.{Keeps, turn_keeps, turn_same}
 
 -- a turn that keeps whether a frame is to begin
-pub turn_waits : (before after : Pass) (x y : Kept) → IsFrameTurn before after x y → KeepsWait x y → Keeps awaits_by before after
+pub turn_waits : (before after : Pass) (x y : StampedFrames) → IsFrameTurn before after x y → KeepsWait x y → Keeps awaits_by before after
 turn_waits before after x y turn keeps = turn_keeps awaits_frame awaits_by before after x y turn.awaits keeps.awaits
 
 pub due_keeps : (before after : Pass) (phase now : ℕ) (result : Bool) → DueTurn before after phase now result → Keeps awaits_by before after
@@ -32,7 +32,7 @@ pub sealed_keeps : (before after : Pass) (result : Result (List FrameEntry) NoMe
 sealed_keeps before after result t = turn_waits before after t.0 t.1 t.2 (sealed_waits t.0 t.1 result t.3)
 
 -- a turn that delivers the pulse that is asked for, if it came
-pub pulse_awaits : (before after : Pass) (x y : Kept) (now : ℕ) (came : Option ℕ) → IsFrameTurn before after x y → ((c : Constants) → before.view.constants ≡ Some c → AsksIfScheduled c x)
+pub pulse_awaits : (before after : Pass) (x y : StampedFrames) (now : ℕ) (came : Option ℕ) → IsFrameTurn before after x y → ((c : Constants) → before.view.constants ≡ Some c → AsksIfScheduled c x)
     → came ≡ delivered x.frames.asked now → y ≡ pulsed x came → AwaitsBy before after came
 pulse_awaits before after x y now came turn asks is left = λ c e named. by_pulse came is left c e named
   where
@@ -52,7 +52,7 @@ any_begins p q of_it none_named = (
 )
 
 -- the pass that may begin a frame, or any other where none alone delivers pulses, finds one that is to begin
-pub finds_one : (q : SharedFrames) (before after : Pass) (x y : Kept) → IsFrameTurn before after x y → MayBegin before q → IfAlone before (awaits_frame x ≡ 1)
+pub finds_one : (q : SharedFrames) (before after : Pass) (x y : StampedFrames) → IsFrameTurn before after x y → MayBegin before q → IfAlone before (awaits_frame x ≡ 1)
 finds_one q before after x y turn may = λ c e named. (turn.awaits c e named).0 ∙ may.1 c e named
 
 -- a frame that began, whose phases keep what is known

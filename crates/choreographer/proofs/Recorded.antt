@@ -9,7 +9,7 @@ use Rattle.frame_phases.specs.declared.entry.Took.{Took}
 use Rattle.frame_phases.specs.declared.entry.Took.TheVariants as took
 use Rattle.frame_phases.specs.Pulses.{pulse}
 use Rattle.frame_phases.specs.State.{Frames, ran, scheduled_at}
-use Rattle.choreographer.specs.declared.kept.Kept.{Kept}
+use Rattle.choreographer.specs.declared.state.StampedFrames.{StampedFrames}
 use Rattle.choreographer.specs.declared.host.Sending.{Sending}
 use Rattle.choreographer.specs.declared.hosted.Pulse.{Pulse}
 use Rattle.choreographer.specs.Steps.{known_by}
@@ -45,17 +45,17 @@ adds_trans before middle after f g = (
 )
 
 -- a turn that leaves these entries behind those found
-pub turn_records : (before after : Pass) (x y : Kept) (more : List FrameEntry) → IsFrameTurn before after x y → x.frames.entries ++ more ≡ y.frames.entries → after.view.own ≡ before.view.own ++ more
+pub turn_records : (before after : Pass) (x y : StampedFrames) (more : List FrameEntry) → IsFrameTurn before after x y → x.frames.entries ++ more ≡ y.frames.entries → after.view.own ≡ before.view.own ++ more
 turn_records before after x y more turn is = turn.own ∙ ap (λ l. before.view.own ++ l) (drop_prefix x.frames.entries more y.frames.entries is)
 
 -- a turn that leaves the entries as they were
-pub turn_records_none : (before after : Pass) (x y : Kept) → IsFrameTurn before after x y → y.frames.entries ≡ x.frames.entries → after.view.own ≡ before.view.own
+pub turn_records_none : (before after : Pass) (x y : StampedFrames) → IsFrameTurn before after x y → y.frames.entries ≡ x.frames.entries → after.view.own ≡ before.view.own
 turn_records_none before after x y turn same = turn_records before after x y [] turn (append-nil x.frames.entries ∙ sym same) ∙ append-nil before.view.own
 
-adds_these : (before after : Pass) (x y : Kept) (more : List FrameEntry) → IsFrameTurn before after x y → x.frames.entries ++ more ≡ y.frames.entries → AreOfPhases more → AddsPhases before after
+adds_these : (before after : Pass) (x y : StampedFrames) (more : List FrameEntry) → IsFrameTurn before after x y → x.frames.entries ++ more ≡ y.frames.entries → AreOfPhases more → AddsPhases before after
 adds_these before after x y more turn is phases = (more, turn_records before after x y more turn is, phases)
 
-adds_nothing : (before after : Pass) (x y : Kept) → IsFrameTurn before after x y → y.frames ≡ x.frames → AddsPhases before after
+adds_nothing : (before after : Pass) (x y : StampedFrames) → IsFrameTurn before after x y → y.frames ≡ x.frames → AddsPhases before after
 adds_nothing before after x y turn same = adds_these before after x y [] turn (append-nil x.frames.entries ∙ sym (ap (λ (f : Frames). f.entries) same)) tt
 
 -- the turn that begins a frame
@@ -91,7 +91,7 @@ take_adds before after phase now took.NoMemory t = adds_nothing before after t.0
 -- ---- counted
 
 -- the entries that a turn leaves behind those found
-pub turn_counts : (test : FrameEntry → Bool) (before after : Pass) (x y : Kept) (more : List FrameEntry) → IsFrameTurn before after x y → x.frames.entries ++ more ≡ y.frames.entries
+pub turn_counts : (test : FrameEntry → Bool) (before after : Pass) (x y : StampedFrames) (more : List FrameEntry) → IsFrameTurn before after x y → x.frames.entries ++ more ≡ y.frames.entries
     → count_by test after.view.own ≡ count_by test before.view.own + count_by test more
 turn_counts test before after x y more turn is = ap (count_by test) (turn_records before after x y more turn is) ∙ count_both test before.view.own more
 
@@ -150,9 +150,9 @@ module _ {X : Type 0} (f : FrameEntry → Option X) (takes : (p n t : ℕ) → f
 pub asked_records : (before after : Pass) (result : Option ℕ) → AskedBy before after result → after.view.own ≡ before.view.own
 asked_records before after result t = turn_records_none before after t.0 t.0 t.1 refl
 
-pub pulse_leaves : (x y : Kept) (now : ℕ) (sends sends' : List Sending) (result : Option Pulse) → SendsPulse x y now sends sends' result → y.frames.entries ≡ x.frames.entries
-pulse_leaves x y now sends sends' None p = ap (λ (z : Kept). z.frames.entries) p.1
-pulse_leaves x y now sends sends' (Some q) p = ap (λ (z : Kept). z.frames.entries) p.1
+pub pulse_leaves : (x y : StampedFrames) (now : ℕ) (sends sends' : List Sending) (result : Option Pulse) → SendsPulse x y now sends sends' result → y.frames.entries ≡ x.frames.entries
+pulse_leaves x y now sends sends' None p = ap (λ (z : StampedFrames). z.frames.entries) p.1
+pulse_leaves x y now sends sends' (Some q) p = ap (λ (z : StampedFrames). z.frames.entries) p.1
 
 pub pulse_records : (before after : Pass) (is_moment : ℕ → Bool) (sends sends' : List Sending) (result : Option Pulse) → PulsedBy before after is_moment sends sends' result → after.view.own ≡ before.view.own
 pulse_records before after is_moment sends sends' result t = turn_records_none before after t.0 t.1 t.3 (pulse_leaves t.0 t.1 t.2 sends sends' result t.5)
@@ -161,9 +161,9 @@ scheduled_leaves : (s : Frames) (b : Bool) (o : Option ℕ) → (if b then s els
 scheduled_leaves s true o = refl
 scheduled_leaves s false o = refl
 
-pub due_leaves : (x : Kept) (now : ℕ) (b : Bool) → (if b then record x { frames = scheduled_at x.frames now } else x).frames.entries ≡ x.frames.entries
+pub due_leaves : (x : StampedFrames) (now : ℕ) (b : Bool) → (if b then record x { frames = scheduled_at x.frames now } else x).frames.entries ≡ x.frames.entries
 due_leaves x now true = scheduled_leaves x.frames x.frames.scheduled (Some (pulse x.frames.interval now))
 due_leaves x now false = refl
 
 pub due_records : (before after : Pass) (is_moment : ℕ → Bool) (phase : ℕ) (result : Bool) → DueBy before after is_moment phase result → after.view.own ≡ before.view.own
-due_records before after is_moment phase result t = let d = t.2 in turn_records_none before after d.0 d.1 d.2 (ap (λ (z : Kept). z.frames.entries) d.4 ∙ due_leaves d.0 (known_by d.0 t.0) result)
+due_records before after is_moment phase result t = let d = t.2 in turn_records_none before after d.0 d.1 d.2 (ap (λ (z : StampedFrames). z.frames.entries) d.4 ∙ due_leaves d.0 (known_by d.0 t.0) result)

@@ -6,7 +6,7 @@ use lib.ListN.{get_elem?}
 use Rattle.atomic_table.proofs.Lists.{at_set, at_snoc}
 use Rattle.loop_model.specs.Lists.{total}
 use Rattle.loop_model.proofs.Sums.{total-append, total-set}
-use Rattle.choreographer.specs.declared.kept.Kept.{Kept}
+use Rattle.choreographer.specs.declared.state.StampedFrames.{StampedFrames}
 use Rattle.choreographer.specs.declared.view.View.{View}
 use Rattle.choreographer.specs.Turn.{Board, measured, SumsUp, KnowsOf}
 
@@ -74,7 +74,7 @@ pub join_same : (share : View → ℕ) (views : List View) (id other : ℕ) (v w
 join_same share views id other v w b rest at there both empty =
     let t = total-set share (set views id b) other w rest there in let t' = total-set share views id v b at in omega (arith, t, t', both, empty)
 
-module _ (measure : Kept → ℕ) (share : View → ℕ) where
+module _ (measure : StampedFrames → ℕ) (share : View → ℕ) where
   -- the state is where it was, and so is who has the turn
   pub adds_same : (s : Board) (words : List ℕ) (views : List View) → SumsUp measure share s → total share views ≡ total share s.views → AreStill s.views views
       → SumsUp measure share (record { words = words; homes = s.homes; views = views })
@@ -84,7 +84,7 @@ module _ (measure : Kept → ℕ) (share : View → ℕ) where
   }
 
   -- the state was taken by a view that found it
-  pub adds_taken : (s t : Board) (x : Kept) → SumsUp measure share s → get_elem? s.homes 0 ≡ some (some (Some x)) → ((y : Kept) → get_elem? t.homes 0 ≡ some (some (Some y)) → ⊥)
+  pub adds_taken : (s t : Board) (x : StampedFrames) → SumsUp measure share s → get_elem? s.homes 0 ≡ some (some (Some x)) → ((y : StampedFrames) → get_elem? t.homes 0 ≡ some (some (Some y)) → ⊥)
       → total share t.views ≡ total share s.views → ((j : ℕ) (u : View) → get_elem? t.views j ≡ some u → u.has_turn ≡ true → u.found ≡ Some x) → SumsUp measure share t
   adds_taken s t x a here nothing same found = record {
     home = λ y there. absurd (nothing y there);
@@ -92,14 +92,14 @@ module _ (measure : Kept → ℕ) (share : View → ℕ) where
   }
 
   -- the state is at home
-  pub adds_home : (t : Board) (x : Kept) → ((y : Kept) → get_elem? t.homes 0 ≡ some (some (Some y)) → x ≡ y) → measure x ≡ total share t.views → AreIdle t.views → SumsUp measure share t
+  pub adds_home : (t : Board) (x : StampedFrames) → ((y : StampedFrames) → get_elem? t.homes 0 ≡ some (some (Some y)) → x ≡ y) → measure x ≡ total share t.views → AreIdle t.views → SumsUp measure share t
   adds_home t x this same idle = record {
     home = λ y there. ap measure (sym (this y there)) ∙ same;
     out = λ j u there has. absurd (idle j u there has);
   }
 
   -- what the views have, once one gave back the state that it had found, changed as the state was
-  pub given_sum : (s : Board) (x : Kept) (id : ℕ) (v w : View) → SumsUp measure share s → get_elem? s.views id ≡ some v → v.has_turn ≡ true
+  pub given_sum : (s : Board) (x : StampedFrames) (id : ℕ) (v w : View) → SumsUp measure share s → get_elem? s.views id ≡ some v → v.has_turn ≡ true
       → measured measure v.found ≤ share v + measure x → share w ≡ share v + measure x - measured measure v.found → measure x ≡ total share (set s.views id w)
   given_sum s x id v w a at has enough is = let t = total-set share s.views id v w at in let was = a.out id v at has in omega (arith, t, was, enough, is)
 
@@ -111,14 +111,14 @@ module _ (measure : Kept → ℕ) (share : View → ℕ) where
     out = λ j u there has any. let was = still j u there has in a.out was.0 u was.1 has (λ none. any (same ∙ none)) ∙ sym same;
   }
 
-  pub knows_taken : (s t : Board) (x : Kept) → KnowsOf measure share s → get_elem? s.homes 0 ≡ some (some (Some x)) → ((y : Kept) → get_elem? t.homes 0 ≡ some (some (Some y)) → ⊥)
+  pub knows_taken : (s t : Board) (x : StampedFrames) → KnowsOf measure share s → get_elem? s.homes 0 ≡ some (some (Some x)) → ((y : StampedFrames) → get_elem? t.homes 0 ≡ some (some (Some y)) → ⊥)
       → total share t.views ≡ total share s.views → ((j : ℕ) (u : View) → get_elem? t.views j ≡ some u → u.has_turn ≡ true → u.found ≡ Some x) → KnowsOf measure share t
   knows_taken s t x a here nothing same found = record {
     home = λ y there. absurd (nothing y there);
     out = λ j u there has any. ap (measured measure) (found j u there has) ∙ (a.home x here (λ none. any (same ∙ none)) ∙ sym same);
   }
 
-  pub knows_home : (t : Board) (x : Kept) → ((y : Kept) → get_elem? t.homes 0 ≡ some (some (Some y)) → x ≡ y) → (total share t.views ≢ 0 → measure x ≡ total share t.views) → AreIdle t.views → KnowsOf measure share t
+  pub knows_home : (t : Board) (x : StampedFrames) → ((y : StampedFrames) → get_elem? t.homes 0 ≡ some (some (Some y)) → x ≡ y) → (total share t.views ≢ 0 → measure x ≡ total share t.views) → AreIdle t.views → KnowsOf measure share t
   knows_home t x this same idle = record {
     home = λ y there any. ap measure (sym (this y there)) ∙ same any;
     out = λ j u there has. absurd (idle j u there has);

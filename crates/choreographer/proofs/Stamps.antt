@@ -15,7 +15,7 @@ use Rattle.frame_phases.specs.declared.entry.Took.TheVariants as took
 use Rattle.frame_phases.specs.Pulses.{pulse, is_stamp, is_stamped, are_stamped, is_pulse_if_any, comes_after_if_any}
 use Rattle.frame_phases.specs.State.{Frames, with_entry, scheduled_at, next_callback, removed, BeginsBy, TakesBy, Seals, ran, delivered}
 use Rattle.frame_phases.proofs.Pulses.{next_comes_after}
-use Rattle.choreographer.specs.declared.kept.Kept.{Kept}
+use Rattle.choreographer.specs.declared.state.StampedFrames.{StampedFrames}
 use Rattle.choreographer.specs.Frame.{IsQuiet}
 use Rattle.choreographer.specs.Turn.{GoesWithClock, IsStamped}
 use Rattle.choreographer.proofs.Clock.{goes_quietly, goes_begun, goes_taken, goes_pulsed, delivered_comes_after}
@@ -41,7 +41,7 @@ ran_stamped interval [] = refl
 ran_stamped interval (c ∷ cs) = ran_stamped interval cs
 
 -- behind more entries, where the stamp that was kept is still one
-module _ (x y : Kept) (h : IsStamped x) where
+module _ (x y : StampedFrames) (h : IsStamped x) where
   with_more : (more : List FrameEntry) → y.frames.interval ≡ x.frames.interval → x.frames.entries ++ more ≡ y.frames.entries → are_stamped x.frames.interval more ≡ true
       → is_stamp x.frames.interval y.stamp ≡ true → comes_after_if_any y.stamp y.frames.asked ≡ true → GoesWithClock x.frames.interval y.stamp (x.frames.entries ++ more) → IsStamped y
   with_more more same is stamped kept asked clock = record {
@@ -93,7 +93,7 @@ module _ (x y : Kept) (h : IsStamped x) where
   -- a callback is posted, or no memory was found
   pub stamped_posted : (phase due id : ℕ) (token : Option ℕ) (now : ℕ) (result : Result Scheduling NoMemory) → OnOk result (y ≡ with_post x phase due id token now) → OnErr result (y ≡ x)
       → StepsQuietly x y → y.stamp ≡ x.stamp → IsStamped y
-  stamped_posted phase due id token now (Ok r) is none q same = stamped_quiet q same (by_due (nat_lt (now / 1000000) due) refl (ap (λ (z : Kept). z.frames.asked) is))
+  stamped_posted phase due id token now (Ok r) is none q same = stamped_quiet q same (by_due (nat_lt (now / 1000000) due) refl (ap (λ (z : StampedFrames). z.frames.asked) is))
     where
       grown : Frames
       grown = with_entry x.frames (Posted (next_callback x.frames phase due id token))
@@ -112,18 +112,18 @@ module _ (x y : Kept) (h : IsStamped x) where
           → comes_after_if_any y.stamp y.frames.asked ≡ true
       by_due true later e = asks_same (e ∙ ap (λ (b : Bool). (if b then grown else scheduled_at grown now).asked) later) same
       by_due false soon e = by_test (nat_lt (known_by x now / 1000000) due) e
-  stamped_posted phase due id token now (Err e) is none q same = stamped_quiet q same (asks_same (ap (λ (z : Kept). z.frames.asked) none) same)
+  stamped_posted phase due id token now (Err e) is none q same = stamped_quiet q same (asks_same (ap (λ (z : StampedFrames). z.frames.asked) none) same)
 
   -- callbacks are removed, or no memory was found
   pub stamped_removed : (phase id : ℕ) (token : Option ℕ) (result : Result ℕ NoMemory) → OnOk result (y ≡ record x { frames = removed x.frames phase id token }) → OnErr result (y ≡ x)
       → StepsQuietly x y → y.stamp ≡ x.stamp → IsStamped y
-  stamped_removed phase id token (Ok n) is none q same = stamped_quiet q same (asks_same (ap (λ (z : Kept). z.frames.asked) is) same)
-  stamped_removed phase id token (Err e) is none q same = stamped_quiet q same (asks_same (ap (λ (z : Kept). z.frames.asked) none) same)
+  stamped_removed phase id token (Ok n) is none q same = stamped_quiet q same (asks_same (ap (λ (z : StampedFrames). z.frames.asked) is) same)
+  stamped_removed phase id token (Err e) is none q same = stamped_quiet q same (asks_same (ap (λ (z : StampedFrames). z.frames.asked) none) same)
 
   -- a frame is scheduled, or none is wanted
   pub stamped_due : (now : ℕ) (did : Bool) → y ≡ (if did then record x { frames = scheduled_at x.frames (known_by x now) } else x) → StepsQuietly x y → y.stamp ≡ x.stamp → IsStamped y
-  stamped_due now true is q same = stamped_quiet q same (asks_scheduled now (ap (λ (z : Kept). z.frames.asked) is) same)
-  stamped_due now false is q same = stamped_quiet q same (asks_same (ap (λ (z : Kept). z.frames.asked) is) same)
+  stamped_due now true is q same = stamped_quiet q same (asks_scheduled now (ap (λ (z : StampedFrames). z.frames.asked) is) same)
+  stamped_due now false is q same = stamped_quiet q same (asks_same (ap (λ (z : StampedFrames). z.frames.asked) is) same)
 
   -- entries are handed out
   pub stamped_sealed : (answer : Result (List FrameEntry) NoMemory) → Seals x.frames answer y.frames → y.stamp ≡ x.stamp → IsStamped y

@@ -11,7 +11,7 @@ use Rattle.frame_phases.specs.declared.entry.Took.{Took}
 use Rattle.frame_phases.specs.declared.entry.Took.TheVariants as took
 use Rattle.frame_phases.specs.Pulses.{pulse}
 use Rattle.frame_phases.specs.State.{Frames, with_entry, scheduled_at, next_callback, removed, delivered, BeginsBy, TakesBy, Seals}
-use Rattle.choreographer.specs.declared.kept.Kept.{Kept}
+use Rattle.choreographer.specs.declared.state.StampedFrames.{StampedFrames}
 use Rattle.choreographer.specs.declared.view.Constants.{Constants}
 use Rattle.std.specs.Option.{option_map_or}
 use Rattle.choreographer.specs.Turn.{AsksIfScheduled, awaits_frame, asked_of}
@@ -19,7 +19,7 @@ use Rattle.choreographer.specs.Steps.{pulsed, known_by, posting_moment}
 use Rattle.choreographer.specs.Calls.{with_post}
 
 -- a step that keeps whether a frame is to begin, and after which a pulse is asked for only for a scheduled frame, if so it was before
-pub record KeepsWait (x y : Kept) : Type 0 where
+pub record KeepsWait (x y : StampedFrames) : Type 0 where
   pub awaits : awaits_frame y ≡ awaits_frame x
   pub asks : (key : Constants) → AsksIfScheduled key x → AsksIfScheduled key y
   -- where one pass alone delivers pulses, a pulse that is asked for stays so
@@ -46,7 +46,7 @@ was_asked : (o : Option ℕ) (now stamp : ℕ) → Some stamp ≡ delivered o no
 was_asked None now stamp is = absurd (cc (is))
 was_asked (Some p) now stamp is = (p, refl)
 
-module _ (x y : Kept) where
+module _ (x y : StampedFrames) where
   -- whether a frame is scheduled is as it was, and so is what is asked for
   keeps_same : y.frames.scheduled ≡ x.frames.scheduled → y.frames.asked ≡ x.frames.asked → KeepsWait x y
   keeps_same scheduled asked = record {
@@ -76,7 +76,7 @@ module _ (x y : Kept) where
 
   -- a callback is posted
   pub post_waits : (phase due id : ℕ) (token : Option ℕ) (now : ℕ) → y ≡ with_post x phase due id token now → KeepsWait x y
-  post_waits phase due id token now is = by_due (nat_lt (posting_moment x due now / 1000000) due) (ap (λ (z : Kept). z.frames) is)
+  post_waits phase due id token now is = by_due (nat_lt (posting_moment x due now / 1000000) due) (ap (λ (z : StampedFrames). z.frames) is)
     where
       grown : Frames
       grown = with_entry x.frames (Posted (next_callback x.frames phase due id token))
@@ -88,17 +88,17 @@ module _ (x y : Kept) where
   -- or no memory was found for it
   pub posted_waits : (phase due id : ℕ) (token : Option ℕ) (now : ℕ) (result : Result Scheduling NoMemory) → OnOk result (y ≡ with_post x phase due id token now) → OnErr result (y ≡ x) → KeepsWait x y
   posted_waits phase due id token now (Ok r) is none = post_waits phase due id token now is
-  posted_waits phase due id token now (Err e) is none = keeps_all (ap (λ (z : Kept). z.frames) none)
+  posted_waits phase due id token now (Err e) is none = keeps_all (ap (λ (z : StampedFrames). z.frames) none)
 
   -- callbacks are removed, or no memory was found
   pub removed_waits : (phase id : ℕ) (token : Option ℕ) (result : Result ℕ NoMemory) → OnOk result (y ≡ record x { frames = removed x.frames phase id token }) → OnErr result (y ≡ x) → KeepsWait x y
-  removed_waits phase id token (Ok n) is none = keeps_same (ap (λ (z : Kept). z.frames.scheduled) is) (ap (λ (z : Kept). z.frames.asked) is)
-  removed_waits phase id token (Err e) is none = keeps_all (ap (λ (z : Kept). z.frames) none)
+  removed_waits phase id token (Ok n) is none = keeps_same (ap (λ (z : StampedFrames). z.frames.scheduled) is) (ap (λ (z : StampedFrames). z.frames.asked) is)
+  removed_waits phase id token (Err e) is none = keeps_all (ap (λ (z : StampedFrames). z.frames) none)
 
   -- a frame is scheduled, or none is wanted
   pub due_waits : (now : ℕ) (did : Bool) → y ≡ (if did then record x { frames = scheduled_at x.frames (known_by x now) } else x) → KeepsWait x y
-  due_waits now true is = keeps_scheduled x.frames (known_by x now) refl refl (ap (λ (z : Kept). z.frames) is)
-  due_waits now false is = keeps_all (ap (λ (z : Kept). z.frames) is)
+  due_waits now true is = keeps_scheduled x.frames (known_by x now) refl refl (ap (λ (z : StampedFrames). z.frames) is)
+  due_waits now false is = keeps_all (ap (λ (z : StampedFrames). z.frames) is)
 
   -- entries are handed out
   pub sealed_waits : (answer : Result (List FrameEntry) NoMemory) → Seals x.frames answer y.frames → KeepsWait x y
@@ -114,7 +114,7 @@ module _ (x y : Kept) where
   -- a pulse is delivered, or none is due
   pub pulsed_asks : (key : Constants) (pulse : Option ℕ) → y ≡ pulsed x pulse → AsksIfScheduled key x → AsksIfScheduled key y
   pulsed_asks key None is asks = subst (AsksIfScheduled key) (sym is) asks
-  pulsed_asks key (Some stamp) is asks = λ n named any. absurd (true≢false (sym any ∙ ap (λ (z : Kept). is_some z.frames.asked) is))
+  pulsed_asks key (Some stamp) is asks = λ n named any. absurd (true≢false (sym any ∙ ap (λ (z : StampedFrames). is_some z.frames.asked) is))
 
   -- no frame was to begin where a pulse came, since it was asked for
   pub pulsed_none : (now stamp : ℕ) → Some stamp ≡ delivered x.frames.asked now → awaits_frame x ≡ 0

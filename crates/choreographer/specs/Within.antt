@@ -6,7 +6,7 @@ use Rattle.loop_model.specs.declared.memory.NoMemory.{NoMemory}
 use Rattle.frame_phases.specs.declared.entry.Scheduling.{Scheduling}
 use Rattle.frame_phases.specs.Frames.{next_phase, owed_callbacks}
 use Rattle.frame_phases.specs.State.{scheduling, delivered}
-use Rattle.choreographer.specs.declared.kept.Kept.{Kept}
+use Rattle.choreographer.specs.declared.state.StampedFrames.{StampedFrames}
 use Rattle.choreographer.specs.Client.{Run, with_runs}
 use Rattle.choreographer.specs.Frame.{Batch, begin_place, ran_since, batches_since, progress}
 use Rattle.choreographer.specs.Known.{SharedFrames, Pass, IsPassOf, MayDeliver, IsFrameTurn}
@@ -16,12 +16,13 @@ use Rattle.choreographer.specs.Done.{runs, runs_of, batch_numbers, IsBatch, AreB
 
 -- one turn that posts a callback
 abbrev pub PostTurn : Pass → Pass → ℕ → ℕ → ℕ → Option ℕ → ℕ → Result Scheduling NoMemory → Type 0
-PostTurn before after phase due id token now result = (x : Kept) × (y : Kept) × IsFrameTurn before after x y
+PostTurn before after phase due id token now result = (x : StampedFrames) × (y : StampedFrames) × IsFrameTurn before after x y
     × IfOk result (λ r. r ≡ scheduling x.frames due (posting_moment x due now)) × OnOk result (y ≡ with_post x phase due id token now) × OnErr result (y ≡ x)
 
 -- one turn that delivers a pulse
 abbrev pub PulseTurn : Pass → Pass → ℕ → Option ℕ → Type 0
-PulseTurn before after now result = (x : Kept) × (y : Kept) × IsFrameTurn before after x y × (result ≡ delivered x.frames.asked now) × (y ≡ pulsed x result)
+PulseTurn before after now result =
+    (x : StampedFrames) × (y : StampedFrames) × IsFrameTurn before after x y × (result ≡ delivered x.frames.asked now) × (y ≡ pulsed x result)
 
 -- a pass in a frame: the frame in progress is its own, and this phase is next
 pub record InFrame (phases : ℕ) (p : Pass) (next : Option ℕ) : Type 0 where
@@ -30,7 +31,7 @@ pub record InFrame (phases : ℕ) (p : Pass) (next : Option ℕ) : Type 0 where
   -- all callbacks that were taken stand as run
   pub settled : owed_callbacks (reverse p.view.seen) ≡ []
   -- its last turn left what it has seen
-  pub left : (y : Kept) × (p.view.left ≡ Some y) × (y.frames.entries ≡ p.view.seen)
+  pub left : (y : StampedFrames) × (p.view.left ≡ Some y) × (y.frames.entries ≡ p.view.seen)
 
 -- a pass of this choreographer may take this phase: it has the frame in progress, and may deliver pulses
 pub record MayTake (q : SharedFrames) (phase : ℕ) (p : Pass) : Type 0 where

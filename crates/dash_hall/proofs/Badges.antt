@@ -10,7 +10,7 @@ use Rattle.loop_model.specs.declared.segment.Segment.{Segment}
 use Rattle.shared_queue.specs.Known.{Shared, IsOf, IsTurnWith}
 use Rattle.looper_run.specs.Holding.{Sender, State}
 use Rattle.message_pool.specs.Passes.{Tally}
-use Rattle.choreographer.specs.declared.kept.Kept.{Kept}
+use Rattle.choreographer.specs.declared.state.StampedFrames.{StampedFrames}
 use Rattle.choreographer.specs.Known.{SharedFrames, Pass, IsPassOf, IsFrameTurn}
 use Rattle.dash_hall.specs.Growth.{GoesOn}
 use Rattle.dash_hall.specs.Kits.{Badge, badge_of, badge_for, ArePostersOf, FrameBadge, frame_badge_of, frame_badge_for, ArePassesOf, queue_key, queue_constants, AreQueuesOf, frame_key, frame_constants, AreChoreographersOf}
@@ -54,7 +54,7 @@ pass_at k cs ps h i p c lt =
 pub passes_kept : (k : ℕ) (cs : List SharedFrames) (ps : List Pass) → ArePassesOf k cs ps → (i : ℕ) (p d : Pass) → frame_badge_of p ≡ frame_badge_of (slice_index_or ps i d) → ArePassesOf k cs (slice_set ps i p)
 passes_kept k cs ps h i p d same = map-set_same frame_badge_of ps i p d same ∙ h
 
-pub frame_turn_badge : (before after : Pass) (x y : Kept) → IsFrameTurn before after x y → frame_badge_of after ≡ frame_badge_of before
+pub frame_turn_badge : (before after : Pass) (x y : StampedFrames) → IsFrameTurn before after x y → frame_badge_of after ≡ frame_badge_of before
 frame_turn_badge before after x y t = λ i. record { table = t.table i; constants = t.constants i; number = t.number i }
 
 -- there is a queue for each looper, with the looper's constants

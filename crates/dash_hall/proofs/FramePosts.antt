@@ -22,7 +22,7 @@ use Rattle.frame_phases.specs.declared.entry.Scheduling.TheVariants as sched
 use Rattle.frame_phases.specs.State.{Frames, with_entry, next_callback, scheduling, posted}
 use Rattle.frame_phases.specs.Pulses.{pulse}
 use Rattle.looper_run.specs.Holding.{Sender}
-use Rattle.choreographer.specs.declared.kept.Kept.{Kept}
+use Rattle.choreographer.specs.declared.state.StampedFrames.{StampedFrames}
 use Rattle.choreographer.specs.declared.host.Sending.{Sending}
 use Rattle.choreographer.specs.declared.host.HostSent.{HostSent}
 use Rattle.choreographer.specs.declared.host.HostSent.TheVariants as host
@@ -72,14 +72,14 @@ if_later false true p due is = absurd cc
 if_later false false p due is = absurd cc
 
 -- a callback that was not posted for later is due by the clock as it was read
-posted_soon : (x : Kept) (due now : ℕ) (r : Scheduling) → scheduling x.frames due (posting_moment x due now) ≡ r → (r ≡ sched.Later due → ⊥) → nat_lt (now / 1000000) due ≡ false
+posted_soon : (x : StampedFrames) (due now : ℕ) (r : Scheduling) → scheduling x.frames due (posting_moment x due now) ≡ r → (r ≡ sched.Later due → ⊥) → nat_lt (now / 1000000) due ≡ false
 posted_soon x due now r is other = go (nat_lt (now / 1000000) due) refl is where
   go : (t : Bool) → nat_lt (now / 1000000) due ≡ t → scheduling x.frames due (if t then now else known_by x now) ≡ r → t ≡ false
   go true e is = sym e ∙ if_now _ _ _ _ _ is other
   go false e is = refl
 
 -- one that was is not
-posted_later : (x : Kept) (due now : ℕ) → scheduling x.frames due (posting_moment x due now) ≡ sched.Later due → nat_lt (now / 1000000) due ≡ true
+posted_later : (x : StampedFrames) (due now : ℕ) → scheduling x.frames due (posting_moment x due now) ≡ sched.Later due → nat_lt (now / 1000000) due ≡ true
 posted_later x due now is = go (nat_lt (now / 1000000) due) refl is where
   go : (t : Bool) → nat_lt (now / 1000000) due ≡ t → scheduling x.frames due (if t then now else known_by x now) ≡ sched.Later due → t ≡ true
   go true e is = refl
@@ -198,10 +198,10 @@ told_none h p q a b g is =
 pub due_is : (u delay now : ℕ) → now ≡ nanos_of u → due_at now delay ≡ frame_due u delay
 due_is u delay now is = ap (λ (n : ℕ). min (n + delay) (2 ^ 64 - 1)) (ap (λ (n : ℕ). n / 1000000) is ∙ millis_of u)
 
-asks_posted : (u phase id delay now : ℕ) (f g : Pass) (x y : Kept) → IsFrameTurn f g x y → (now == nanos_of u) ≡ true → y ≡ with_post x phase (due_at now delay) id None now → AsksFor (Posts phase (frame_due u delay) id None) f g
+asks_posted : (u phase id delay now : ℕ) (f g : Pass) (x y : StampedFrames) → IsFrameTurn f g x y → (now == nanos_of u) ≡ true → y ≡ with_post x phase (due_at now delay) id None now → AsksFor (Posts phase (frame_due u delay) id None) f g
 asks_posted u phase id delay now f g x y t moment post =
     let c = next_callback x.frames phase (due_at now delay) id None in
-    let left : x.frames.entries ++ frame.Posted c ∷ [] ≡ y.frames.entries = sym (ap (λ (z : Kept). z.frames.entries) post ∙ posted_entries x.frames c (posting_moment x (due_at now delay) now)) in
+    let left : x.frames.entries ++ frame.Posted c ∷ [] ≡ y.frames.entries = sym (ap (λ (z : StampedFrames). z.frames.entries) post ∙ posted_entries x.frames c (posting_moment x (due_at now delay) now)) in
     let asks : AsksFor (Posts phase (due_at now delay) id None) f g =
     ap asks_in (turn_records f g x y (frame.Posted c ∷ []) t left) ∙ filter_map-append asked_in f.view.own (frame.Posted c ∷ []) in
     subst (λ (d : ℕ). AsksFor (Posts phase d id None) f g) (due_is u delay now (eqb-true now (nanos_of u) moment)) asks
@@ -217,7 +217,7 @@ placed_asks u phase id delay f g a b (placed.NoMemory, is, more) = absurd is
 abbrev Message : ℕ → ℕ → ℕ → Call
 Message h phase when = Post (record { handler = h; what = 2; arg = phase; obj = None; callback = None; when = when; asynchronous = true; slot = None })
 
-at_once : (h u phase id delay : ℕ) (p q : Sender) (a b : Tally) (f g : Pass) (x y : Kept) (now : ℕ) → GoesOn p q a b → IsFrameTurn f g x y → (now == nanos_of u) ≡ true → y ≡ with_post x phase (due_at now delay) id None now
+at_once : (h u phase id delay : ℕ) (p q : Sender) (a b : Tally) (f g : Pass) (x y : StampedFrames) (now : ℕ) → GoesOn p q a b → IsFrameTurn f g x y → (now == nanos_of u) ≡ true → y ≡ with_post x phase (due_at now delay) id None now
     → nat_lt (now / 1000000) (due_at now delay) ≡ false → sends_by h q ≡ sends_by h p → PostsFrame h u phase id delay p q f g
 at_once h u phase id delay p q a b f g x y now goes t is post soon same =
     let zero = no_delay u delay (due_at now delay) now (eqb-true now (nanos_of u) is) refl soon in
@@ -227,7 +227,7 @@ at_once h u phase id delay p q a b f g x y now goes t is post soon same =
       turn = t.turns;
     }
 
-for_later : (h u phase id delay : ℕ) (p q : Sender) (a b : Tally) (f g : Pass) (x y : Kept) (now : ℕ) (answer : HostSent) → GoesOn p q a b → IsFrameTurn f g x y → (now == nanos_of u) ≡ true → y ≡ with_post x phase (due_at now delay) id None now
+for_later : (h u phase id delay : ℕ) (p q : Sender) (a b : Tally) (f g : Pass) (x y : StampedFrames) (now : ℕ) (answer : HostSent) → GoesOn p q a b → IsFrameTurn f g x y → (now == nanos_of u) ≡ true → y ≡ with_post x phase (due_at now delay) id None now
     → nat_lt (now / 1000000) (due_at now delay) ≡ true → IsTaken answer → sends_by h q ≡ sends_by h p ++ record { what = 2; arg = phase; when = due_at now delay; answer = answer } ∷ [] → PostsFrame h u phase id delay p q f g
 for_later h u phase id delay p q a b f g x y now answer goes t is post later_on taken sent =
     let moment = eqb-true now (nanos_of u) is in

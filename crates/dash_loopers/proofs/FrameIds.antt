@@ -16,7 +16,7 @@ use Rattle.loop_model.specs.Items.{is_just}
 use Rattle.frame_phases.specs.Frames.{lawful, all_allowed, is_allowed, is_settled, owed_callbacks, posted_count, next_phase, live_callbacks, taken_callbacks, callback_number, is_due, is_undue, is_unmatched}
 use Rattle.frame_phases.proofs.EndsOfFrames.{allowed_before}
 use Rattle.frame_phases.specs.State.{Frames, past as past_of}
-use Rattle.choreographer.specs.declared.kept.Kept.{Kept}
+use Rattle.choreographer.specs.declared.state.StampedFrames.{StampedFrames}
 use Rattle.choreographer.specs.declared.frame.Framed.{Framed}
 use Rattle.choreographer.specs.declared.frame.Framed.TheVariants.{Done, Elsewhere, Unscheduled, Backwards, NoMemory}
 use Rattle.choreographer.specs.Known.{Pass, IsFrameTurn}
@@ -250,7 +250,7 @@ added_at xs ys zs more e place is long whole =
     (λ i. slice_get (zs_are i) (at i)) ∙ at_seam xs e more
 
 -- a turn's pass has seen what it had seen, and more
-pub turn_grew : (f g : Pass) (x y : Kept) → IsFrameTurn f g x y → IsPrefix f.view.seen g.view.seen
+pub turn_grew : (f g : Pass) (x y : StampedFrames) → IsFrameTurn f g x y → IsPrefix f.view.seen g.view.seen
 turn_grew f g x y t = prefix_trans f.view.seen x.frames.entries g.view.seen t.begins.0 (subst (IsPrefix x.frames.entries) (sym t.seen) t.grows)
 
 pub no_frame : (interval phases : ℕ) (is_moment : ℕ → Bool) (before after : Pass) (told : List Run) → told ≡ [] → IsPrefix before.view.seen after.view.seen → after.view.own ≡ before.view.own → RunsInTime is_moment before after None
@@ -288,7 +288,7 @@ framed_ran interval phases is_moment before after told Done some (start, time, m
     let place : ℕ = begin_place (past_of y.frames) in
     let first : ℕ = length before.view.seen in
     let ids : ids_of (runs_of (batches_since (past_of y.frames))) ≡ ids_of told = ap (λ (bs : List Batch). ids_of (runs_of bs)) (sym batches_are) ∙ ap ids_of (sym same) in
-    let x : Kept = turn.0 in
+    let x : StampedFrames = turn.0 in
     let began : middle.view.seen ≡ x.frames.entries ++ Begin x.stamp start time ∷ [] = turn.2.seen ∙ ap (λ (f : Frames). f.entries) turn.3.4 in
     let taken : list_all is_moment (map now_of (batches_since (past_of y.frames))) ≡ true = ap (λ (bs : List Batch). list_all is_moment (map now_of bs)) (sym batches_are) ∙ taken_then is_moment 0 batches are in
     record {

@@ -3,7 +3,7 @@ use Rattle.std.proofs.Common.{◌≡◌, ℕ, Bool, true, false, Option, Some, N
 use Rattle.std.specs.Prelude.{if◌then◌else◌, cond, is_some, ◌||◌, ◌&&◌}
 use Rattle.frame_phases.specs.State.{scheduled_at}
 use Rattle.frame_phases.specs.Pulses.{comes_after_if_any}
-use Rattle.choreographer.specs.declared.kept.Kept.{Kept}
+use Rattle.choreographer.specs.declared.state.StampedFrames.{StampedFrames}
 use Rattle.choreographer.specs.Steps.{known_by}
 use Rattle.choreographer.specs.Known.{Pass, IsFrameTurn, SeesQuietly}
 use Rattle.choreographer.proofs.InTime.{later_quietly}
@@ -58,7 +58,7 @@ comes_later before after came comes awaits stamp waits has = (
     by_came (Some n) knows = one_or_none waits before.view.awaits has.waits knows.0
 
 -- a turn that leaves the stamp that it found, and whether a frame is to begin
-pub turn_keeps_latest : (before after : Pass) (x y : Kept) → IsFrameTurn before after x y → y.stamp ≡ x.stamp → awaits_frame y ≡ awaits_frame x → KeepsLatest before after
+pub turn_keeps_latest : (before after : Pass) (x y : StampedFrames) → IsFrameTurn before after x y → y.stamp ≡ x.stamp → awaits_frame y ≡ awaits_frame x → KeepsLatest before after
 turn_keeps_latest before after x y turn same still stamp waits has =
     let s = turn.stamp has.key has.constants has.alone in
     let w = turn.awaits has.key has.constants has.alone in
@@ -79,7 +79,7 @@ begins_end_latest before after how same begins ends ended stamp has =
 -- a turn that schedules a frame where one is wanted
 pub due_keeps_latest : (before after : Pass) (is_moment : ℕ → Bool) (phase : ℕ) (result : Bool) → DueBy before after is_moment phase result → KeepsLatest before after
 due_keeps_latest before after is_moment phase result (now, moment, (x, y, turn, is, left)) =
-    turn_keeps_latest before after x y turn (ap (λ (z : Kept). z.stamp) left ∙ by_result result) (due_waits x y now result left).awaits
+    turn_keeps_latest before after x y turn (ap (λ (z : StampedFrames). z.stamp) left ∙ by_result result) (due_waits x y now result left).awaits
   where
     by_result : (b : Bool) → (if b then record x { frames = scheduled_at x.frames (known_by x now) } else x).stamp ≡ x.stamp
     by_result true = refl
@@ -98,7 +98,7 @@ still_in_time is_moment before after keeps quiet t stamp waits only has up_to = 
 -- ---- what is awaited by the looper
 
 -- a turn that leaves whether a frame is to begin
-pub turn_may_await : (before after : Parts) (x y : Kept) → IsFrameTurn before.frames after.frames x y → awaits_frame y ≡ awaits_frame x → after.awaits ≡ before.awaits → MayAwait before → MayAwait after
+pub turn_may_await : (before after : Parts) (x y : StampedFrames) → IsFrameTurn before.frames after.frames x y → awaits_frame y ≡ awaits_frame x → after.awaits ≡ before.awaits → MayAwait before → MayAwait after
 turn_may_await before after x y turn still same may waits c e named =
     let constants = sym turn.constants ∙ e in
     let alone = named ∙ ap Some turn.number in

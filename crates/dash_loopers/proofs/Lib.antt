@@ -31,4 +31,5 @@ pub mod LooperLeft
 pub mod LooperLooped
 pub mod LooperRounds
 pub mod LatestPulses
+pub mod PulsesOnTime
 pub mod LooperLeaves

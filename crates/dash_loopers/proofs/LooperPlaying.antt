@@ -1,7 +1,7 @@
 -- In a round a looper goes on from where it stood: what keeps that it has, and what a round leaves of it.
 use Rattle.choreographer.proofs.Quiet.{grows_self}
 use Rattle.dash_loopers.proofs.LatestPulses.{still_in_time}
-use Rattle.std.proofs.Common.{◌≡◌, ℕ, ◌≤◌, true, false, List, [], ◌∷◌, ◌++◌, Option, Some, None, refl, sym, ap, ◌∙◌, subst, arith, append_assoc}
+use Rattle.std.proofs.Common.{◌≡◌, ℕ, true, false, List, [], ◌∷◌, ◌++◌, Option, Some, None, refl, sym, ap, ◌∙◌, subst, arith, append_assoc}
 use Rattle.std.specs.Prelude.{◌==◌, Bool, Result, Ok, Err, is_ok, OnOk, is_some, not, ◌&&◌}
 use Rattle.std.specs.List.{AllByRecursion, Contains}
 use Rattle.std.specs.Option.{IsSomeAnd}
@@ -30,7 +30,7 @@ use Rattle.run_model.specs.Loopers.{LooperState, SentCall, after_dispatch, start
 use Rattle.dash_hall.specs.Hosts.{pass_asks}
 use Rattle.dash_loopers.specs.declared.player.Parts.{Parts}
 use Rattle.dash_loopers.specs.declared.looper.StageLooper.{StageLooper}
-use Rattle.dash_loopers.specs.Played.{calls_in, calls_of, IsPlayed, Delivers, looper_pulsed, Pulses, pulse_time, Stands, IsTimedBy, HasLookedAt, IsAskedDueAt, IsPostedBy, GoesOnTo, ComesTo, IsPlaying, HasPlayed}
+use Rattle.dash_loopers.specs.Played.{calls_in, calls_of, IsPlayed, Delivers, looper_pulsed, PulsesThen, ComesThen, Stands, IsTimedBy, HasLookedAt, IsAskedDueAt, IsPostedBy, GoesOnTo, ComesTo, IsPlaying, HasPlayed}
 use Rattle.dash_loopers.specs.PlayingLaws.{goes_nowhere, comes_on}
 use Rattle.dash_loopers.proofs.LooperStands.{stands_pulse, by_dispatch, sends_dispatch, posts_dispatch, frames_dispatch, stands_dispatch}
 use Rattle.dash_loopers.proofs.PlaySteps.{waits_still}
@@ -53,10 +53,10 @@ goes_one q k looks now a b x sent posted frames timed = record {
   ran_then = All-nil (λ (y : FrameAt). HasLookedAt k looks y.now);
 }
 
--- a pulse that came is due by now
-goes_pulsed : (k q : ℕ) (looks : List Entry) (now : ℕ) (stamp : Option ℕ) (a : LooperState) → pulse_time stamp ≤ now → GoesOnTo q k looks now a (looper_pulsed q stamp a)
-goes_pulsed k q looks now None a due = goes_nowhere q k looks now a
-goes_pulsed k q looks now (Some stamp) a due = goes_one q k looks now a (looper_pulsed q (Some stamp) a) _ refl refl refl (due, refl)
+-- a pulse that came comes now
+goes_pulsed : (k q : ℕ) (looks : List Entry) (now : ℕ) (stamp : Option ℕ) (a : LooperState) → ComesThen now stamp → GoesOnTo q k looks now a (looper_pulsed q stamp a)
+goes_pulsed k q looks now None a is = goes_nowhere q k looks now a
+goes_pulsed k q looks now (Some stamp) a is = goes_one q k looks now a (looper_pulsed q (Some stamp) a) _ refl refl refl (is, refl)
 
 -- calls, callbacks and frames at the moment of a look
 goes_looked : (q k : ℕ) (looks : List Entry) (now time : ℕ) (e : Entry) (a b : LooperState) → Contains looks e → e.sender ≡ k → e.call ≡ Next time
@@ -79,16 +79,17 @@ goes_looked q k looks now time e a b among sender call m p r = record {
 }
 
 module _ (s : Script) (q now : ℕ) (began : StageLooper) where
-  -- a pulse was delivered and told, or none came
-  pulsed_on : (k k' : ℕ) (es es' more : List Entry) (acts acts' : List Act) (parts parts' : Parts) → k' ≡ k → es' ≡ es ++ more → Pulses s q now (calls_in k es) (calls_in k' es') parts parts' acts acts'
+  -- a pulse was delivered now and told, or none came
+  pulsed_on : (k k' : ℕ) (es es' more : List Entry) (acts acts' : List Act) (parts parts' : Parts) → k' ≡ k → es' ≡ es ++ more → PulsesThen s q now (calls_in k es) (calls_in k' es') parts parts' acts acts'
       → IsPlaying s q now began k es acts parts → IsPlaying s q now began k' es' acts' parts'
   pulsed_on k k' es es' more acts acts' parts parts' same saw p meets =
-      let here : Pulses s q now (calls_in k es) (calls_in k (es ++ more)) parts parts' acts acts' = subst (λ l. Pulses s q now (calls_in k es) l parts parts' acts acts') (λ i. calls_in (same i) (saw i)) p in
+      let at : PulsesThen s q now (calls_in k es) (calls_in k (es ++ more)) parts parts' acts acts' = subst (λ l. PulsesThen s q now (calls_in k es) l parts parts' acts acts') (λ i. calls_in (same i) (saw i)) p in
+      let here = at.0 in
       subst (λ (n : ℕ). IsPlaying s q now began n es' acts' parts') (sym same) (subst (λ (l : List Entry). IsPlaying s q now began k l acts' parts') (sym saw) (λ text a come.
       (let c = meets text a come in
-      comes_on s q now a k began.looper.held.poster.view.seen es more acts acts' parts parts' c (looper_pulsed q here.stamp c.state) (stands_pulse s q k now es more acts acts' parts parts' c.state c.state text here c.stands) (goes_pulsed k q more now here.stamp c.state here.due))))
+      comes_on s q now a k began.looper.held.poster.view.seen es more acts acts' parts parts' c (looper_pulsed q here.stamp c.state) (stands_pulse s q k now es more acts acts' parts parts' c.state c.state text here c.stands) (goes_pulsed k q more now here.stamp c.state (at.1 c.stands.latest_is.key c.stands.latest_is.constants c.stands.latest_is.alone)))))
 
-  pub playing_pulse : (before after : Holding) (parts parts' : Parts) → IsLent before after → Pulses s q now (calls_of before.poster) (calls_of after.poster) parts parts' before.journal.acts after.journal.acts
+  pub playing_pulse : (before after : Holding) (parts parts' : Parts) → IsLent before after → PulsesThen s q now (calls_of before.poster) (calls_of after.poster) parts parts' before.journal.acts after.journal.acts
       → Passes (λ k es acts. IsPlaying s q now began k es acts parts) before → Passes (λ k es acts. IsPlaying s q now began k es acts parts') after
   playing_pulse before after parts parts' lent p meets =
       pulsed_on before.poster.sender after.poster.sender before.poster.view.seen after.poster.view.seen lent.more before.journal.acts after.journal.acts parts parts' lent.same.sender lent.seen p meets
@@ -158,7 +159,7 @@ intercepted NoMemory P Q never h = tt
 
 module _ (s : Script) (q now : ℕ) (began : StageLooper) where
   -- a pulse was delivered, or none came, unless memory ran out
-  pub pulse_or_none : (d : Did) (before after : Holding) (parts parts' : Parts) → IsLent before after → Unless d (Pulses s q now (calls_of before.poster) (calls_of after.poster) parts parts' before.journal.acts after.journal.acts)
+  pub pulse_or_none : (d : Did) (before after : Holding) (parts parts' : Parts) → IsLent before after → Unless d (PulsesThen s q now (calls_of before.poster) (calls_of after.poster) parts parts' before.journal.acts after.journal.acts)
       → Passes (λ k es acts. IsPlaying s q now began k es acts parts) before → Unless d (Passes (λ k es acts. IsPlaying s q now began k es acts parts') after)
   pulse_or_none Yes before after parts parts' lent p meets = playing_pulse s q now began before after parts parts' lent p meets
   pulse_or_none No before after parts parts' lent p meets = playing_pulse s q now began before after parts parts' lent p meets

@@ -31,7 +31,7 @@ use Rattle.frame_phases.specs.State.{delivered as delivered_at}
 use Rattle.run_model.specs.Planned.{Makes as Asks, Unbars, AreFor, frame_handler, gauge_line, gauge_looper, animation_id, animation_phase, traversal_id}
 use Rattle.run_model.specs.Planned.{frame_message}
 use Rattle.run_model.specs.AskedSoFar.{tokens_in}
-use Rattle.run_model.specs.Control.{At, NotBefore}
+use Rattle.run_model.specs.Control.{At, Exactly}
 use Rattle.run_model.specs.Loopers.{LooperState, GaugeState, SentCall, and_sends, and_posts_frame, with_gauge, stepped_towards, paints, starts_frame, after_dispatch, reacted, object_set}
 use Rattle.run_model.specs.Loopers.{target_set, traversal_requested, traversal_ran, gauge_moved, callback_ran, IsSent}
 use Rattle.run_model.specs.Parts.{animation_ran, sent_on}
@@ -120,7 +120,7 @@ pulse_delivered s q now p p' a b parts parts' (Some pulse) goes (x, y, n, t, mom
       ap asks_in (pulse_records parts.frames parts'.frames (λ n. n == nanos_of now) (sends_by (frame_handler q) p) (sends_by (frame_handler q) p') (Some pulse) (x, y, n, t, moment, (some, left, sends))),
       millis_near pulse.stamp now near,
       λ text l is. played_with s q (calls_of p') (calls_of p') parts parts' (looper_pulsed q (Some pulse.stamp) l) refl root others fired
-          (played_pulsed s q pulse.stamp (calls_of p') parts _ (played_call s q (Post (frame_message q 0 0 (pulse.stamp / 1000000))) (NotBefore (millis_up pulse.stamp)) p p' parts refl made l is)),
+          (played_pulsed s q pulse.stamp (calls_of p') parts _ (played_call s q (Post (frame_message q 0 0 (pulse.stamp / 1000000))) (Exactly (millis_up pulse.stamp)) p p' parts refl made l is)),
     ))
 
 -- ---- by a host that was made of the looper's poster

@@ -25,7 +25,7 @@ use Rattle.dash_script.specs.Causes.{phase_count}
 use Rattle.dash_script.specs.Reading.{HasText}
 use Rattle.looper_run.specs.Holding.{Sender}
 use Rattle.choreographer.specs.declared.view.Constants.{Constants}
-use Rattle.choreographer.specs.Known.{Pass, SeesQuietly}
+use Rattle.choreographer.specs.Known.{Pass, SeesQuietly, IfAlone}
 use Rattle.choreographer.specs.Turn.{has_later}
 use Rattle.choreographer.specs.Calls.{latest_stamp}
 use Rattle.choreographer.specs.declared.host.HostSent.TheVariants as host
@@ -33,7 +33,7 @@ use Rattle.choreographer.specs.declared.hosted.Pulse.{Pulse}
 use Rattle.choreographer.specs.Client.{Run}
 use Rattle.run_model.specs.Planned.{Makes, AreFor, entries_by, looper_of, frame_message, frame_due, sender_count}
 use Rattle.run_model.specs.AskedSoFar.{tokens_in}
-use Rattle.run_model.specs.Control.{Timing, At, InBlock, NotBefore}
+use Rattle.run_model.specs.Control.{Timing, At, InBlock, Exactly, NotBefore}
 use Rattle.run_model.specs.Loopers.{LooperState, SentCall, first_looper, starts_frame, after_dispatch, fires, reaction, ActsLead, IsSent, pulse_stamp}
 use Rattle.run_model.specs.Loopers.{has_frames, GaugeState}
 use Rattle.run_model.specs.Parts.{sent_on, asks_to_run}
@@ -186,6 +186,15 @@ abbrev pub ComesLater : Pass → Option ℕ → Type 0
 ComesLater before came = (stamp : ℕ) (awaits : Bool) → HasLatest before stamp awaits
     → (comes_after_if_any stamp came ≡ true) × ((is_some came && awaits) ≡ false)
 
+-- the pulse that came, where one came, is the one that the pass knew to be asked for, if it knew of one
+abbrev pub ComesAsAsked : Pass → Option ℕ → Type 0
+ComesAsAsked before came = IfAlone before ((stamp : ℕ) → came ≡ Some stamp → before.view.asks ≢ 0 → stamp ≡ before.view.asks)
+
+-- it came at its millisecond, rounded up
+abbrev pub ComesThen : ℕ → Option ℕ → Type 0
+ComesThen now None = Unit {0}
+ComesThen now (Some stamp) = millis_up stamp ≡ now
+
 -- no moment of what the pass has seen is later than this one
 abbrev pub HasSeenUpTo : ℕ → Pass → Type 0
 HasSeenUpTo t p = has_later t p.view.seen ≡ false
@@ -197,11 +206,12 @@ RunsInTime is_moment before after frame =
     (t stamp : ℕ) (awaits : Bool) → ((n : ℕ) → is_moment n ≡ true → n ≡ t) → HasLatest before stamp awaits → HasSeenUpTo t before
     → HasSeenUpTo t after × (awaits ≡ true → HasLatest after stamp false → is_some frame ≡ true)
 
--- a pulse of this period came, later than the latest, whose frame was not to begin any more, and is the latest now; or none came. The looper awaits its frame
--- where one came, and else as before
+-- a pulse of this period came, as it was asked for, later than the latest, whose frame was not to begin any more, and is the latest now; or none came. What the
+-- pass has come to see since, where it alone delivers pulses, are postings and removals. The looper awaits its frame where one came, and else as before
 pub record IsNextPulse (period : ℕ) (before after : Parts) (came : Option ℕ) : Type 0 where
   pub is_pulse : is_pulse_if_any period came ≡ true
   pub later : ComesLater before.frames came
+  pub asked : ComesAsAsked before.frames came
   pub got : GetsLatest before.frames after.frames came
   pub quiet : SeesQuietly before.frames after.frames
   pub waits : after.awaits ≡ (is_some came || before.awaits)
@@ -223,7 +233,8 @@ asks_for None start = []
 asks_for (Some place) start = Runs start ∷ []
 
 -- callbacks of these identities ran, of a frame whose beginning the pass has seen, or of none, and the pass asked for that frame, by its start, and for nothing
--- else; its moments pass the test, and it began with the stamp of the latest pulse
+-- else; its moments pass the test, and it began with the stamp of the latest pulse. Where the test is of one moment alone, the pass has seen no later one yet,
+-- and a frame that was to begin and is to begin no more began
 pub record RanFrame (interval phases : ℕ) (is_moment : ℕ → Bool) (before after : Pass) (ids : List ℕ) : Type 0 where
   pub frame : Option ℕ
   pub start : ℕ
@@ -263,7 +274,7 @@ looper_pulsed q None a = a
 looper_pulsed q (Some stamp) a =
     record a {
       sent = a.sent
-          ++ record { queue = q; ask = Makes (Post (frame_message q 0 0 (stamp / 1000000))); reply = None; timing = NotBefore (millis_up stamp) } ∷ [];
+          ++ record { queue = q; ask = Makes (Post (frame_message q 0 0 (stamp / 1000000))); reply = None; timing = Exactly (millis_up stamp) } ∷ [];
       stamp = stamp;
       awaits = true;
     }
@@ -292,6 +303,11 @@ pub record Pulses (s : Script) (q now : ℕ) (made made' : List Entry) (parts pa
   pub grew : IsPrefix parts.frames.view.seen parts'.frames.view.seen
   pub asks : pass_asks parts'.frames ≡ pass_asks parts.frames
   pub plays : Plays s q (looper_pulsed q stamp) made parts made' parts'
+
+-- the same in lockstep: where the pass alone delivers pulses, the pulse came at its millisecond, if one came
+abbrev pub PulsesThen : Script → ℕ → ℕ → List Entry → List Entry → Parts → Parts → List Act → List Act → Type 0
+PulsesThen s q now made made' parts parts' acts acts' =
+    (p : Pulses s q now made made' parts parts' acts acts') × IfAlone parts.frames (ComesThen now p.stamp)
 
 -- ---- what is told in a mode
 
@@ -348,12 +364,13 @@ Stands s q sender es acts parts a = StandsBy true s q sender es acts parts a a
 abbrev pub HasLookedAt : ℕ → List Entry → ℕ → Type 0
 HasLookedAt sender looks time = (e : Entry) × Contains looks e × (e.sender ≡ sender) × (e.call ≡ Next time)
 
--- a call is timed by a look of the sender among these entries, or it is one on the looper's own queue that may come no later than at this moment; a looper
--- makes no call in a block
+-- a call is timed by a look of the sender among these entries, or it is one on the looper's own queue at this moment; a looper makes no call in a block, and
+-- none at an open time
 abbrev pub IsTimedBy : ℕ → ℕ → List Entry → ℕ → ℕ → Timing → Type 0
 IsTimedBy q sender looks now queue (At time) = HasLookedAt sender looks time
 IsTimedBy q sender looks now queue (InBlock time) = ⊥
-IsTimedBy q sender looks now queue (NotBefore time) = (time ≤ now) × (queue ≡ q)
+IsTimedBy q sender looks now queue (Exactly time) = (time ≡ now) × (queue ≡ q)
+IsTimedBy q sender looks now queue (NotBefore time) = ⊥
 
 -- to post a callback is asked at this time, which is due at once
 abbrev pub IsAskedDueAt : ℕ → FrameAsk → Type 0

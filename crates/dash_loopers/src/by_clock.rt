@@ -396,7 +396,7 @@ fn last_of(how: Loop) -> Round
 }
 
 /// A pulse's stamp in nanoseconds, in milliseconds rounded up.
-fn rounded_up(stamp: Option<u64>) -> Option<u64>
+pub(crate) fn rounded_up(stamp: Option<u64>) -> Option<u64>
     ensures { result ≡ option_map millis_up stamp }
 {
     let nanos = stamp?;

@@ -13,6 +13,7 @@ ghost use Rattle.dash_loopers.specs.PlayingLaws.{playing_others, playing_dispose
 ghost use Rattle.dash_loopers.specs.Places.{ServesOn, DeliversOn};
 ghost use Rattle.dash_loopers.specs.Steps.{Leaves};
 
+use crate::by_clock::rounded_up;
 use crate::looper::StageLooper;
 use crate::view_root::ViewRoot;
 use choreographer::{Choreographer, FramePass};
@@ -94,6 +95,14 @@ impl<'a, R: Wait, G: Gate> Dispatcher for Player<'a, R, G> {
     }
 
     fn pulse(&mut self, own: &mut Own, now: u64) -> Did {
+        let choreographer = self.place.choreographer();
+        let stamp = choreographer.asked(self.place.rt, &mut self.parts.frames);
+        let Some(due) = rounded_up(stamp) else {
+            return Did::No;
+        };
+        if due != self.now {
+            return Did::No;
+        }
         self.place.pulse(&mut self.parts, own, self.now)
     }
 

@@ -8,7 +8,7 @@ use Rattle.std.proofs.lemmas.Bool.{and_parts, and_from, ltb-true, lt-ltb}
 use Rattle.std.proofs.lemmas.List.{length-append, length-map, map-append}
 use Rattle.std.proofs.lemmas.List.Sums.{sum_by-cons}
 use Rattle.std.proofs.lemmas.List.Folds.{list_all-append}
-use Rattle.dash_script.specs.declared.form.Kind.TheVariants as kind
+use Rattle.dash_script.specs.declared.form.LineKind.TheVariants as kind
 use Rattle.dash_script.specs.declared.form.Role.{Role}
 use Rattle.dash_script.specs.declared.form.Role.TheVariants.{Looper, Thread, Handler, Gauge, Phase, Within}
 use Rattle.dash_script.specs.declared.script.Command.{Command}

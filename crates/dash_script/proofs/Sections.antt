@@ -3,7 +3,7 @@ use Rattle.std.proofs.Common.{◌≡◌, Bool, true, List, [], ◌∷◌, ◌++�
 use Rattle.std.specs.List.{list_all, flat_map, enumerate_from}
 use Rattle.std.proofs.lemmas.Bool.{and_parts}
 use Rattle.std.proofs.lemmas.List.Folds.{list_all-append}
-use Rattle.dash_script.specs.declared.form.Kind.TheVariants as kind
+use Rattle.dash_script.specs.declared.form.LineKind.TheVariants as kind
 use Rattle.dash_script.specs.declared.script.Script.{Script}
 use Rattle.dash_script.specs.declared.statement.Statement.{Statement}
 use Rattle.dash_script.specs.Text.{say, handler_statement, gauge_statement, rule_line, block_lines, opening_lines, lines_before_end, script_lines}

@@ -2,8 +2,8 @@
 use Rattle.std.specs.Prelude.{ℕ, Bool, true, false, ◌&&◌, ◌==◌, nat_lt, List, [], ◌∷◌, ◌++◌, length, slice_index, Option, Some, None, if◌then◌else◌}
 use Rattle.dash_script.specs.declared.form.Part.{Part}
 use Rattle.dash_script.specs.declared.form.Part.TheVariants as part_of
-use Rattle.dash_script.specs.declared.form.Kind.{Kind}
-use Rattle.dash_script.specs.declared.form.Kind.TheVariants as kind
+use Rattle.dash_script.specs.declared.form.LineKind.{LineKind}
+use Rattle.dash_script.specs.declared.form.LineKind.TheVariants as kind
 use Rattle.dash_script.specs.declared.refusal.Cause.{Cause}
 use Rattle.dash_script.specs.declared.refusal.Cause.TheVariants as cause
 use Rattle.dash_script.specs.declared.script.Command.{Command}
@@ -26,7 +26,7 @@ empty_draft = record {
 }
 
 -- the command of a command line
-abbrev pub command_of : Kind → List ℕ → Command
+abbrev pub command_of : LineKind → List ℕ → Command
 command_of kind.Post ns = command.Post (slice_index ns 1) (slice_index ns 2) (slice_index ns 3)
 command_of kind.PostAsync ns = command.PostAsync (slice_index ns 1) (slice_index ns 2) (slice_index ns 3)
 command_of kind.Front ns = command.Front (slice_index ns 1) (slice_index ns 2)
@@ -53,7 +53,7 @@ with_command (b ∷ []) l = record b { lines = b.lines ++ l ∷ [] } ∷ []
 with_command (b ∷ c ∷ bs) l = b ∷ with_command (c ∷ bs) l
 
 -- the script with what one more line holds
-abbrev pub added : Script → Kind → List ℕ → Script
+abbrev pub added : Script → LineKind → List ℕ → Script
 added s kind.Edition1 ns = record s { edition = 1 }
 added s kind.Edition2 ns = record s { edition = 2 }
 added s kind.Loopers ns = record s { loopers = slice_index ns 0 }

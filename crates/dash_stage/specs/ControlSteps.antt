@@ -1,7 +1,6 @@
 -- What each step of the controller asks for and leaves, in lockstep and by a clock.
 use Rattle.std.specs.Prelude.{◌≡◌, ◌≤◌, ◌+◌, ℕ, Bool, true, false, Option, Some}
 use Rattle.atomic_table.specs.Seated.{TableId}
-use Rattle.message_pool.specs.Passes.{Tally}
 use Rattle.shared_queue.specs.Known.{Shared, IsOf}
 use Rattle.dash_script.specs.declared.script.Script.{Script}
 use Rattle.looper_run.specs.Holding.{Sender}
@@ -30,12 +29,6 @@ pub record CanQuitAtEnd (s : Script) (hall : Hall) (place : ℕ) (c : Controller
   pub at : CanTurn true s hall place c
   pub quitting : IsQuitting s place c
   pub time : (d : Sender) → s.end ≤ time_in (calls_on c place d)
-
--- this poster may quit its queue, whose messages go back to the pool by this pass
-pub record CanQuitBy (q : Shared TableId) (p : Sender) (pool : TableId) (pass : Tally) : Type 0 where
-  pub poster : IsOf p q
-  pub of_pool : pass.home ≡ pool
-  pub home : q.constants.home ≡ pool
 
 -- this poster, the last of its queue, may have it hand its entries out
 pub record CanHandOut (p : Sender) (q : Shared TableId) : Type 0 where

@@ -19,4 +19,3 @@ pub mod Steps
 pub mod Opening
 pub mod Asking
 pub mod Keeping
-pub mod Outcomes

@@ -1,12 +1,12 @@
 //! The controller of a run.
 ghost use Rattle.std.specs.Prelude.{◌≡◌, ◌≤◌, true, false, length, sum_by, IfOk, OnOk};
-ghost use Rattle.dash_hall.specs.Growth.{GoesOn, QuitsOf};
+ghost use Rattle.dash_hall.specs.Growth.{GoesOn, MayCall, QuitsOf};
 ghost use Rattle.dash_hall.specs.Hearing.{seen_by};
 ghost use Rattle.dash_threads.specs.Threads.{AreByClock};
 ghost use Rattle.looper_run.specs.Holding.{Sender};
 ghost use Rattle.run_model.specs.Moments.{Mode, IsMomentOf};
 ghost use Rattle.dash_stage.specs.Controllers.{IsController, CanTurn, TurnsAlone, IsClosing, IsClosingBy, HandsOutFrames, calls_on, time_in, Controls};
-ghost use Rattle.dash_stage.specs.ControlSteps.{KeepsPace, HasAdvanced, HaveAdvanced, QuitsAt, CanMove, CanQuit, CanQuitAtEnd, CanQuitBy, CanHandOut, CanHandOutFrames, TriesToHalt, TurnsIdle, StaysIdle, KeepsPosters, HasLookedFor};
+ghost use Rattle.dash_stage.specs.ControlSteps.{KeepsPace, HasAdvanced, HaveAdvanced, QuitsAt, CanMove, CanQuit, CanQuitAtEnd, CanHandOut, CanHandOutFrames, TriesToHalt, TurnsIdle, StaysIdle, KeepsPosters, HasLookedFor};
 ghost use Rattle.dash_stage.specs.GivingUp.{QuitsUnless};
 ghost use Rattle.dash_stage.specs.Timeliness.{EachTurnsOn, IsHaltEntry, IsNoEntry, HandsPartsOut};
 
@@ -330,7 +330,7 @@ pub(crate) fn quit_by<R: Wait>(
     safe: bool,
     now: u64,
 ) -> Result<(), NoMemory>
-    requires { CanQuitBy queue.now poster.old pool.now pass.old }
+    requires { MayCall queue.now pool.now poster.old pass.old }
     ensures on { GoesOn poster.old poster.new pass.old pass.new }
     ensures quit { OnOk result (QuitsOf poster.old poster.new safe now) }
 {

@@ -3,6 +3,7 @@ ghost use Rattle.std.specs.Prelude.{◌≡◌, ◌<◌, false, true, length, sli
 ghost use Rattle.std.specs.Thread.{IsSync};
 ghost use Rattle.dash_script.specs.Reading.{HasText};
 ghost use Rattle.dash_threads.specs.Threads.{IsThread};
+ghost use Rattle.run_model.specs.ByClock.{IsStagedByClock};
 ghost use Rattle.looper_run.specs.Round.{is_ended};
 ghost use Rattle.dash_loopers.specs.declared.looper.StageLooper.{StageLooper as LooperData};
 ghost use Rattle.dash_loopers.specs.Loopers.{IsLooper};
@@ -11,14 +12,12 @@ ghost use Rattle.dash_stage.specs.ByClock.{EachIsThread, EachIsLooper, CanRunBes
 ghost use Rattle.dash_stage.specs.ByClock.{IsLateMoment, RanBeside, RanMain, HearsThreads, EndsOthers, HasQuitOthers};
 ghost use Rattle.dash_stage.specs.RunEnds.{HasBegunByClock, IsClosingByClock, HasEndedByClock};
 ghost use Rattle.dash_stage.specs.Sharing.{HaveSharedQueues};
-ghost use Rattle.dash_stage.specs.Outcomes.{StagesByClock};
 ghost use Rattle.dash_stage.specs.Stages.{IsStageIn, OthersHaveEnded};
 
 use crate::control::Controller;
 use crate::kept::report;
 use crate::means::Means;
 use crate::opening::set_up;
-use crate::run::Ran;
 use crate::share::hear_threads;
 use crate::side::{has_given_up, some_gave_up};
 use crate::stage::Stage;
@@ -28,6 +27,7 @@ use dash_script::Script;
 use dash_threads::PostingThread;
 use loop_io::{Clock, Gate};
 use loop_model::NoMemory;
+use run_model::Report;
 use std::alloc::Global;
 use std::sync::{Mutex, Wait};
 use std::thread::{Threads, for_each_mut, join_mut};
@@ -42,31 +42,15 @@ pub fn run_free<R: Threads + Wait + time::Clock + Sync, C: Clock + Sync, G: Gate
     script: Script,
     clock: &C,
     gate: &G,
-) -> Ran
+) -> Result<Report, NoMemory>
     requires { HasText script }
-    ensures { StagesByClock (C.shows clock.now) script result }
+    ensures { IfOk result (IsStagedByClock (C.shows clock.now) script) }
 {
     let timer = Timer::new(clock);
     let means = Means { rt, alloc, gate };
-    let stage = match played(&means, &script, &timer) {
-        Ok(stage) => stage,
-        Err(NoMemory) => return Ran::NoMemory,
-    };
+    let mut stage = set_up(alloc, &script, false)?;
+    stage.play_by_clock(&means, &script, &timer)?;
     report(alloc, script, stage, timer.start)
-}
-
-/// The stage after the run.
-fn played<R: Threads + Wait + time::Clock + Sync, C: Clock + Sync, G: Gate + Sync>(
-    means: &Means<R, G>,
-    script: &Script,
-    timer: &Timer<C>,
-) -> Result<Stage, NoMemory>
-    requires { HasText script.now }
-    ensures out { IfOk result (HasEndedByClock (by_timer C.shows timer.now) script.now) }
-{
-    let mut stage = set_up(means.alloc, script, false)?;
-    stage.play_by_clock(means, script, timer)?;
-    Ok(stage)
 }
 
 impl Stage {

@@ -1,13 +1,11 @@
 //! The report of a run.
 ghost use Rattle.std.specs.Prelude.{IfOk};
 ghost use Rattle.dash_hall.specs.Kits.{IsHall};
-ghost use Rattle.dash_stage.specs.Keeping.{AreKeptOf, GiveKits, GiveBack};
-ghost use Rattle.dash_stage.specs.Outcomes.{Reports};
+ghost use Rattle.dash_stage.specs.Keeping.{AreKeptOf, GiveKits, GiveBack, HoldsKept};
 ghost use Rattle.dash_stage.specs.Stages.{CanBeKept, AreThreads, AreLoopers, AreThreadKits};
 
 use crate::control::Controller;
 use crate::records::records;
-use crate::run::Ran;
 use crate::stage::Stage;
 use dash_hall::{Hall, Kit};
 use dash_loopers::StageLooper;
@@ -19,20 +17,23 @@ use run_model::Report;
 use std::alloc::Global;
 
 /// The report of a run that left this; the clock was read so at its start, in lockstep 0.
-pub(crate) fn report(alloc: Global, script: Script, stage: Stage, start: u64) -> Ran
+pub(crate) fn report(
+    alloc: Global,
+    script: Script,
+    stage: Stage,
+    start: u64,
+) -> Result<Report, NoMemory>
     requires { CanBeKept script stage }
-    ensures { Reports script stage start result }
+    ensures { IfOk result (HoldsKept script stage start) }
 {
-    match kept(alloc, &script, stage) {
-        Ok((queues, journals, frames)) => Ran::Ok(Report {
-            script,
-            queues: Sequence::from_vec(queues),
-            journals: Sequence::from_vec(journals),
-            frames: Sequence::from_vec(frames),
-            start,
-        }),
-        Err(NoMemory) => Ran::NoMemory,
-    }
+    let (queues, journals, frames) = kept(alloc, &script, stage)?;
+    Ok(Report {
+        script,
+        queues: Sequence::from_vec(queues),
+        journals: Sequence::from_vec(journals),
+        frames: Sequence::from_vec(frames),
+        start,
+    })
 }
 
 /// The records of the queues, of the loopers and of the choreographers.

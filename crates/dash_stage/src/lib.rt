@@ -15,4 +15,4 @@ mod side;
 mod stage;
 
 pub use free::run_free;
-pub use run::{Ran, run_script};
+pub use run::run_script;

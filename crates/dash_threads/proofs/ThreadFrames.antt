@@ -1,23 +1,19 @@
 -- The frame callbacks that a thread posts and removes.
-use Rattle.std.proofs.Common.{◌≡◌, ℕ, ◌<◌, List, [], ◌∷◌, ◌++◌, length, None, sym, ap, ◌∙◌, subst}
+use Rattle.std.proofs.Common.{◌≡◌, ℕ, [], ◌∷◌, ◌++◌, None, sym, ap, ◌∙◌, subst}
 use Rattle.std.proofs.lemmas.List.Elements.{filter_map-append}
-use Rattle.std.specs.Prelude.{Result, Ok, Err, OnOk, slice_index_or}
+use Rattle.std.specs.Prelude.{Result, Ok, Err, OnOk}
 use Rattle.message_pool.specs.Passes.{Tally}
 use Rattle.frame_phases.specs.declared.entry.FrameEntry.TheVariants as frame
 use Rattle.frame_phases.specs.State.{removed, past}
 use Rattle.frame_phases.specs.Frames.{removed_count}
 use Rattle.looper_run.specs.Holding.{Sender}
-use Rattle.choreographer.specs.declared.kept.Kept.{Kept}
+use Rattle.choreographer.specs.declared.state.StampedFrames.{StampedFrames}
 use Rattle.choreographer.specs.Known.{Pass, IsFrameTurn}
 use Rattle.choreographer.proofs.Recorded.{turn_records}
-use Rattle.run_model.specs.Moments.{in_lockstep}
-use Rattle.run_model.specs.Planned.{TimedCommand}
 use Rattle.run_model.specs.FrameRecords.{Removes, asked_in, asks_in}
-use Rattle.run_model.specs.AskedSoFar.{lines_ask}
 use Rattle.dash_hall.specs.Growth.{GoesOn}
-use Rattle.dash_hall.specs.Hosts.{HostOrigin, IsHost, sends_by, PlacesBy, PostsFrame, pass_asks, AsksFor}
-use Rattle.dash_threads.specs.Threads.{HasAsked}
-use Rattle.dash_hall.proofs.FramePosts.{posts_frame_by, told_whole}
+use Rattle.dash_hall.specs.Hosts.{HostOrigin, IsHost, sends_by, PlacesBy, PostsFrame, AsksFor}
+use Rattle.dash_hall.proofs.FramePosts.{posts_frame_by}
 
 -- a frame callback was posted by a host that was made of this poster
 pub frame_made : {A E U : Type 0} (r : Result A E) (o o' : HostOrigin U) (p q q' : Sender) (b : Tally) (f g : Pass) (u phase i id delay : ℕ) → i ≡ id → o' ≡ o → IsHost o' q b → o.poster ≡ p → q' ≡ q
@@ -31,13 +27,10 @@ frame_made (Err e) o o' p q q' b f g u phase i id delay alike same is began ends
 
 -- ---- a frame callback is removed
 
-pub removal_asks : (phase id : ℕ) (f g : Pass) (x y : Kept) → IsFrameTurn f g x y → y ≡ record x { frames = removed x.frames phase id None } → AsksFor (Removes phase id None) f g
+pub removal_asks : (phase id : ℕ) (f g : Pass) (x y : StampedFrames) → IsFrameTurn f g x y → y ≡ record x { frames = removed x.frames phase id None } → AsksFor (Removes phase id None) f g
 removal_asks phase id f g x y t is =
     let e = frame.Removed phase id None (removed_count (past x.frames) phase id None) in
-    let left : x.frames.entries ++ e ∷ [] ≡ y.frames.entries = sym (ap (λ (z : Kept). z.frames.entries) is) in
+    let left : x.frames.entries ++ e ∷ [] ≡ y.frames.entries = sym (ap (λ (z : StampedFrames). z.frames.entries) is) in
     ap asks_in (turn_records f g x y (e ∷ []) t left) ∙ filter_map-append asked_in f.view.own (e ∷ [])
 
 -- ---- what is told in lockstep is all that was asked for
-
-pub asked_in_lockstep : (past : List TimedCommand) (fs : List Pass) → HasAsked in_lockstep past fs → (q : ℕ) (d : Pass) → q < length fs → pass_asks (slice_index_or fs q d) ≡ lines_ask q past
-asked_in_lockstep past fs has q d near = sym (told_whole (pass_asks (slice_index_or fs q d))) ∙ (has q d near ∙ told_whole (lines_ask q past))

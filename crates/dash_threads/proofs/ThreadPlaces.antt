@@ -1,5 +1,6 @@
 -- The posters and passes of a thread, by the place of their looper.
-use Rattle.std.proofs.Common.{◌≡◌, ℕ, ◌<◌, false, List, length, set, get_or, Some, sym, ap, ◌∙◌, subst, arith}
+use Rattle.std.proofs.Common.{◌≡◌, ℕ, ◌<◌, false, List, length, map, set, get_or, Some, sym, ap, ◌∙◌, subst, arith}
+use Rattle.std.proofs.Math.Seq.{map-set_same}
 use Rattle.dash_script.specs.declared.script.Script.{Script}
 use Rattle.dash_script.specs.Causes.{phase_count}
 use Rattle.atomic_table.specs.Seated.{TableId}
@@ -13,10 +14,12 @@ use Rattle.dash_hall.specs.Kits.{IsHall}
 use Rattle.run_model.specs.Moments.{Mode, IfFree}
 use Rattle.std.proofs.lemmas.Bool.{MatchBool-at_false}
 use Rattle.dash_hall.proofs.Clocking.{if_free}
+use Rattle.dash_hall.specs.Growth.{GoesOn}
 use Rattle.dash_hall.specs.Kits.{badge_of, badge_for, frame_badge_of, queue_constants, ArePostersOf, ArePassesOf}
 use Rattle.dash_threads.proofs.ThreadRuns.{AreInMode}
-use Rattle.dash_hall.proofs.Badges.{alike_length, poster_at, queue_at, poster_is, pass_is, passes_kept, queue_count, queue_is, choreographer_count, choreographer_at}
+use Rattle.dash_hall.proofs.Badges.{alike_length, poster_at, queue_at, poster_is, pass_is, posters_kept, gone_badge, passes_kept, queue_count, queue_is, choreographer_count, choreographer_at}
 use Rattle.dash_threads.specs.declared.thread.PostingThread.{PostingThread}
+use Rattle.dash_threads.specs.AtWork.{WorksOn}
 use Rattle.dash_threads.specs.Threads.{IsThread}
 
 -- what a thread takes out of the hall and of its own at a place
@@ -55,4 +58,22 @@ thread_with_pass s hall t t' is number posters pass i f h frames read same = rec
   frames = subst (λ (n : ℕ). ArePassesOf n hall.choreographers.items t'.kit.frames.items) (sym number)
       (subst (λ (fs : List Pass). ArePassesOf t.number hall.choreographers.items fs) (sym frames) (passes_kept t.number hall.choreographers.items t.kit.frames.items is.frames i h f (same ∙ ap frame_badge_of read)));
   pass = pass ∙ is.pass;
+}
+
+-- a thread whose poster at a place made a call works on
+pub works_called : (s : Script) (hall : Hall) (t t' : PostingThread) (i : ℕ) (p q : Sender) → IsThread s hall t → p ≡ get_or t.kit.posters.items i p → GoesOn p q t.kit.pass t'.kit.pass
+    → t'.kit.posters.items ≡ set t.kit.posters.items i q → t'.kit.frames ≡ t.kit.frames → t'.number ≡ t.number → t'.passed ≡ t.passed → t'.gave_up ≡ t.gave_up → WorksOn s hall t t'
+works_called s hall t t' i p q is read on posters frames number passed goes = record {
+  thread = record {
+    number = subst (λ (n : ℕ). n < s.threads) (sym number) is.number;
+    posters = subst (λ (n : ℕ). ArePostersOf n hall.queues.items t'.kit.posters.items) (sym number)
+        (subst (λ (ps : List Sender). ArePostersOf t.number hall.queues.items ps) (sym posters) (posters_kept t.number hall.queues.items t.kit.posters.items is.posters i q p (gone_badge _ _ _ _ on ∙ ap badge_of read)));
+    frames = subst (λ (n : ℕ). ArePassesOf n hall.choreographers.items t'.kit.frames.items) (sym number)
+        (subst (λ (fs : List Pass). ArePassesOf t.number hall.choreographers.items fs) (sym (ap (λ v. v.items) frames)) is.frames);
+    pass = on.home ∙ is.pass;
+  };
+  number = number;
+  passed = passed;
+  goes = goes;
+  bells = ap (map (λ (z : Sender). z.view.rung)) posters ∙ map-set_same (λ (z : Sender). z.view.rung) t.kit.posters.items i q p (on.rung ∙ ap (λ (z : Sender). z.view.rung) read);
 }

@@ -1,6 +1,6 @@
 -- A thread's own entries, one line further.
 use Rattle.std.proofs.Common.{◌≡◌, ℕ, ◌<◌, ◌≤◌, Bool, true, false, cond, List, [], ◌∷◌, ◌++◌, set, length, get_or, Option, Some, None, refl, sym, ap, ◌∙◌, subst, arith, inl, inr}
-use Rattle.std.specs.Prelude.{is_some, is_err, IfOk, OnOk, Result, Ok, Err, ◌⊎◌}
+use Rattle.std.specs.Prelude.{is_some, is_err, OnOk, Result, Ok, Err, ◌⊎◌}
 use Rattle.std.specs.Option.{option_map}
 use Rattle.std.proofs.lemmas.Bool.{MatchBool-at_false}
 use Rattle.std.proofs.lemmas.List.{get_or_read, get_or-set_same, get_or-set_other, length-set}
@@ -36,18 +36,9 @@ rings_none s h t rungs is same = record {
   rung = same;
 }
 
-pub ok_from : {A E : Type 0} (r : Result A E) (P : Type 0) → P → OnOk r P
-ok_from (Ok x) P h = h
-ok_from (Err e) P h = tt
-
 pub ok_is : {A E : Type 0} (r : Result A E) (P : Type 0) → is_err r ≡ false → OnOk r P → P
 ok_is (Ok x) P is h = h
 ok_is (Err e) P is h = absurd cc
-
--- what follows from two clauses of an answer
-pub both_ok : {A E : Type 0} (r : Result A E) (P Q R : A → Type 0) → ((a : A) → P a → Q a → R a) → IfOk r P → IfOk r Q → IfOk r R
-both_ok (Ok x) P Q R f h k = f x h k
-both_ok (Err e) P Q R f h k = tt
 
 pub calls_at_set : (ps : List Sender) (i : ℕ) (p q : Sender) (c : QueueCall) (token : Option ℕ) → p ≡ get_or ps i p → i < length ps → Performs c token p q → CallsAt i c token ps (set ps i q)
 calls_at_set ps i p q c token is near made = record {

@@ -1,5 +1,5 @@
 //! A thread of a script, and its commands.
-ghost use Rattle.std.specs.Prelude.{◌≡◌, ◌<◌, length, true, false, is_some, IfOk, OnOk};
+ghost use Rattle.std.specs.Prelude.{◌≡◌, ◌<◌, true, false, OnOk};
 ghost use Rattle.dash_script.specs.declared.script.Script.{Script as TheScript};
 ghost use Rattle.dash_script.specs.declared.script.Command.TheVariants.{Frame, Unframe};
 ghost use Rattle.choreographer.specs.Known.{IsPassOf};
@@ -8,15 +8,14 @@ ghost use Rattle.dash_hall.specs.Growth.{GoesOn, MayCall};
 ghost use Rattle.run_model.specs.Parts.{lines_in};
 ghost use Rattle.dash_hall.specs.Kits.{IsUnusedKit, frame_badge_of};
 ghost use Rattle.dash_hall.specs.Hosts.{PostsFrame};
-ghost use Rattle.dash_hall.specs.QueueCalls.{posts_barrier};
-ghost use Rattle.dash_threads.specs.AtWork.{IsAtWork, StaysAtWork, WorksOn, RunsUnlessGivenUp, RunsLines, DoesWork};
-ghost use Rattle.dash_threads.specs.Threads.{CallsAt, with_barrier, MakesPlanned, RunsLine, TakesAt, TakesAtAny, Continues, HasBegun};
+ghost use Rattle.dash_threads.specs.AtWork.{IsAtWork, StaysAtWork, RunsUnlessGivenUp, RunsLines, DoesWork};
+ghost use Rattle.dash_threads.specs.Threads.{with_barrier, MakesPlanned, RunsLine, TakesAt, TakesAtAny, Continues, HasBegun};
 ghost use Rattle.dash_threads.specs.Threads.{one_pass_more, rungs_of, one_more_at};
 
 use crate::labels::Labelled;
 use crate::planned::call_for;
 use choreographer::{Choreographer, FramePass};
-use dash_hall::{Hall, Host, Kit, Look, QueueCall, Still, frame_handler, perform};
+use dash_hall::{Hall, Host, Kit, Look, Still, frame_handler, perform};
 use dash_script::{Block, Command, Script, phase_count};
 use handler_post::Handler;
 use loop_io::Gate;
@@ -227,7 +226,7 @@ impl PostingThread {
         }
     }
 
-    /// Makes the call of a command, and keeps the token of a barrier under its label.
+    /// Makes the call of a command on its looper's queue, and keeps the token of a barrier under its label.
     fn make_call<R: Wait>(
         &mut self,
         rt: &R,
@@ -245,40 +244,20 @@ impl PostingThread {
         let Some(planned) = call_for(script, self.barriers.as_slice(), now, command) else {
             return Ok(());
         };
-        let token = self.call(rt, alloc, hall, script, planned.looper, planned.call)?;
-        self.keep(command, token)
-    }
-
-    /// Makes a call on the queue of this looper, and answers the token of a barrier that it posts.
-    fn call<R: Wait>(
-        &mut self,
-        rt: &R,
-        alloc: Global,
-        hall: &Hall,
-        script: &Script,
-        looper: u32,
-        call: QueueCall,
-    ) -> Result<Option<u64>, NoMemory>
-        requires at_work { IsAtWork script.now hall.now self.old }
-        ensures works { WorksOn script.now hall.now self.old self.new }
-        ensures made { IfOk result (λ token. CallsAt looper call token self.old.kit.posters.items self.new.kit.posters.items) }
-        ensures token { IfOk result (λ token. looper < length self.old.kit.posters.items → is_some token ≡ posts_barrier call) }
-        ensures barriers { self.new.barriers ≡ self.old.barriers }
-        ensures frames { self.new.kit.frames ≡ self.old.kit.frames }
-    {
-        let place = looper as usize;
+        let place = planned.looper as usize;
         if place < self.kit.posters.len() && place < hall.queues.len() {
-            return perform(
+            let token = perform(
                 rt,
                 alloc,
                 &hall.queues[place],
                 &mut self.kit.posters[place],
                 &hall.pool,
                 &mut self.kit.pass,
-                call,
-            );
+                planned.call,
+            )?;
+            return self.keep(command, token);
         }
-        Ok(None)
+        self.keep(command, None)
     }
 
     /// Keeps the token of the barrier that a command posted.

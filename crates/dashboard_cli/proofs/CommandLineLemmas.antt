@@ -11,15 +11,15 @@ use Rattle.clap.proofs.OnLiterals.{clap_on_literals}
 use Rattle.dashboard_cli.specs.CommandLine.{dashboard_app, HasNumber, HasRows, IsCommandFound, name_of, HasFree}
 use Rattle.dashboard_cli.specs.Words.{IsInRange, IsListed, IsSpelled}
 use Rattle.std.specs.Prelude.{IfNone, IsSomeAnd, None, unwrap_or}
-use Rattle.dashboard_cli.specs.declared.words.Command.{Command}
-use Rattle.dashboard_cli.specs.declared.words.Command.TheVariants.{Run, RunFree, Text, Migrate, Make, MakeRun, Trace, Check, Animate, Inbox}
+use Rattle.dashboard_cli.specs.declared.words.Subcommand.{Subcommand}
+use Rattle.dashboard_cli.specs.declared.words.Subcommand.TheVariants.{Run, RunFree, Text, Migrate, Make, MakeRun, Trace, Check, Animate, Inbox}
 
 -- the parser takes the words, and finds the command in them
 pub record IsParsed (words : List (List ℕ)) (Found : Type 0) : Type 0 where
   pub taken : takes dashboard_app words ≡ true
   pub found : Found
 
-abbrev Finds : Command → List (List ℕ) → Type 0
+abbrev Finds : Subcommand → List (List ℕ) → Type 0
 Finds command words = IsParsed words (IsCommandFound command (subcommand_of dashboard_app words))
 
 abbrev Makes : List ℕ → List ℕ → List (List ℕ) → Type 0
@@ -103,7 +103,7 @@ makes_number number small =
     makes_text (decimal number) numeral.0 first.0 first.1
 
 -- each spelling of a command is taken, and that command is found
-pub finds : (command : Command) (words : List (List ℕ)) → IsInRange command → IsSpelled command words → Finds command words
+pub finds : (command : Subcommand) (words : List (List ℕ)) → IsInRange command → IsSpelled command words → Finds command words
 finds Run words fits is = subst (Finds Run) (sym is) finds_run
 finds RunFree words fits is = subst (Finds RunFree) (sym is) finds_free
 finds Text words fits is = subst (Finds Text) (sym is) finds_text
@@ -119,14 +119,14 @@ finds (MakeRun number) words fits (inr is) = subst (Finds (MakeRun number)) (sym
 -- ---- what the program reads of the matches
 
 -- the matches of `make` have its number, and its flag tells which of the two it is
-pub record IsMake (command : Command) (rows : List Row) : Type 0 where
+pub record IsMake (command : Subcommand) (rows : List Row) : Type 0 where
   pub number : ℕ
   pub small : number < 2 ^ 32
   pub text : first_of (codes "number") rows ≡ Some (decimal number)
   pub flag : ((command ≡ Make number) × (one_of (codes "run") rows ≡ Some (codes "false")))
       ⊎ ((command ≡ MakeRun number) × (one_of (codes "run") rows ≡ Some (codes "true")))
 
-pub is_make : (command : Command) (rows : List Row) → IsInRange command → name_of command ≡ codes "make" → HasRows command rows → IsMake command rows
+pub is_make : (command : Subcommand) (rows : List Row) → IsInRange command → name_of command ≡ codes "make" → HasRows command rows → IsMake command rows
 is_make Run rows fits named has = let bad : ◌≡◌ {A = ℕ} 110 107 = ap (λ (t : List ℕ). slice_index t 2) named in absurd (omega arith)
 is_make RunFree rows fits named has = let bad : ◌≡◌ {A = ℕ} 110 107 = ap (λ (t : List ℕ). slice_index t 2) named in absurd (omega arith)
 is_make Text rows fits named has = let bad : ◌≡◌ {A = ℕ} 120 107 = ap (λ (t : List ℕ). slice_index t 2) named in absurd (omega arith)
@@ -139,7 +139,7 @@ is_make (Make number) rows fits named has = record { number = number; small = fi
 is_make (MakeRun number) rows fits named has = record { number = number; small = fits; text = has.0; flag = inr (refl, has.1) }
 
 -- the matches of `text` tell whether it has an edition, and which
-pub is_text : (command : Command) (rows : List Row) → name_of command ≡ codes "text" → HasRows command rows
+pub is_text : (command : Subcommand) (rows : List Row) → name_of command ≡ codes "text" → HasRows command rows
     → ((command ≡ Text) × (first_of (codes "to") rows ≡ None)) ⊎ ((command ≡ Migrate) × (first_of (codes "to") rows ≡ Some (codes "2")))
 is_text Run rows named has = let bad : ◌≡◌ {A = ℕ} 110 120 = ap (λ (t : List ℕ). slice_index t 2) named in absurd (omega arith)
 is_text RunFree rows named has = let bad : ◌≡◌ {A = ℕ} 110 120 = ap (λ (t : List ℕ). slice_index t 2) named in absurd (omega arith)
@@ -153,7 +153,7 @@ is_text (Make number) rows named has = let bad : ◌≡◌ {A = ℕ} 107 120 = a
 is_text (MakeRun number) rows named has = let bad : ◌≡◌ {A = ℕ} 107 120 = ap (λ (t : List ℕ). slice_index t 2) named in absurd (omega arith)
 
 -- the matches of `run` tell whether it goes by the clock
-pub is_run : (command : Command) (rows : List Row) → name_of command ≡ codes "run" → HasRows command rows
+pub is_run : (command : Subcommand) (rows : List Row) → name_of command ≡ codes "run" → HasRows command rows
     → ((command ≡ Run) × HasFree (codes "false") rows) ⊎ ((command ≡ RunFree) × HasFree (codes "true") rows)
 is_run Run rows named has = inl (refl, has)
 is_run RunFree rows named has = inr (refl, has)
@@ -184,10 +184,10 @@ not_listed app words kind same passes refused listed =
     refused (passes (ap (λ (a : App). takes a words) same ∙ (finds listed.0 words listed.1.fits listed.1.spelled).taken))
 
 -- where the words spell a command, that command is the one which is read
-pub reads_listed : (app : App) (words : List (List ℕ)) (rows : Option (List ℕ × List Row)) (read : Option Command) → app ≡ dashboard_app
+pub reads_listed : (app : App) (words : List (List ℕ)) (rows : Option (List ℕ × List Row)) (read : Option Subcommand) → app ≡ dashboard_app
     → (is_simple app ≡ true → rows ≡ subcommand_of app words)
-    → ((command : Command) → IsInRange command → IsCommandFound command rows → read ≡ Some command)
-    → ((command : Command) → read ≡ Some command → IsSpelled command words → ⊥) → IsListed words → ⊥
+    → ((command : Subcommand) → IsInRange command → IsCommandFound command rows → read ≡ Some command)
+    → ((command : Subcommand) → read ≡ Some command → IsSpelled command words → ⊥) → IsListed words → ⊥
 reads_listed app words rows read same matches found not_spelled listed =
     let command = listed.0 in
     let rows_are = matches (ap is_simple same ∙ is_simple_app) ∙ ap (λ (a : App). subcommand_of a words) same in
@@ -195,11 +195,11 @@ reads_listed app words rows read same matches found not_spelled listed =
     not_spelled command (found command listed.1.fits is_found) listed.1.spelled
 
 -- a command that was read, and is not spelled by the words, is the only one that was read
-pub other_spelled : (read : Option Command) (one other : Command) (words : List (List ℕ)) → read ≡ Some one → read ≡ Some other
+pub other_spelled : (read : Option Subcommand) (one other : Subcommand) (words : List (List ℕ)) → read ≡ Some one → read ≡ Some other
     → (IsSpelled one words → ⊥) → IsSpelled other words → ⊥
 other_spelled read one other words is also not_spelled spelled =
-    let same : other ≡ one = ap (λ (r : Option Command). unwrap_or r one) (sym also ∙ is) in
-    not_spelled (subst (λ (c : Command). IsSpelled c words) same spelled)
+    let same : other ≡ one = ap (λ (r : Option Subcommand). unwrap_or r one) (sym also ∙ is) in
+    not_spelled (subst (λ (c : Subcommand). IsSpelled c words) same spelled)
 
-pub if_none : {P : Type 0} (found : Option Command) → found ≡ None → P → IfNone found P
-if_none {P} found is holds = subst (λ (f : Option Command). IfNone f P) (sym is) holds
+pub if_none : {P : Type 0} (found : Option Subcommand) → found ≡ None → P → IfNone found P
+if_none {P} found is holds = subst (λ (f : Option Subcommand). IfNone f P) (sym is) holds

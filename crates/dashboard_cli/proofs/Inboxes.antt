@@ -15,10 +15,10 @@ use Rattle.inbox_queue.specs.declared.parcel.Parcel.{Parcel}
 use Rattle.inbox_queue.specs.declared.run.InboxReport.{InboxReport}
 use Rattle.inbox_queue.specs.Bad.{bad_line}
 use Rattle.dashboard_cli.specs.InboxText.{admitted_from, from_line, inbox_lines, inbox_text}
-use Rattle.dashboard_cli.specs.Works.{limit, KnownBytes, ReadsWhole, Says}
+use Rattle.dashboard_cli.specs.Works.{limit, ToldBytes, ReadsWhole, Says}
 use Rattle.dashboard_cli.specs.OtherWorks.{inbox_scripts, IsInboxText, RefusesInbox}
 use Rattle.dashboard_cli.specs.Steps.{IsRefusedInput, StopsBeforeText}
-use Rattle.dashboard_cli.specs.declared.status.Cause.TheVariants as cause
+use Rattle.dashboard_cli.specs.declared.status.LineCause.TheVariants as cause
 use Rattle.dashboard_cli.specs.declared.status.Status.{Status}
 use Rattle.dashboard_cli.specs.declared.status.Status.TheVariants.{Ok, Usage, Script, ReadFault, WriteFault, NoMemory, TooLong, Trace}
 
@@ -33,7 +33,7 @@ refused_by_line input script line is bad = (
 )
 
 -- a text that a run through an inbox refuses stops the command that read it whole
-pub inbox_stops : (before after : KnownBytes) (input given : List ℕ) (status : Status) → ReadsWhole limit before after input → given ≡ input
+pub inbox_stops : (before after : ToldBytes) (input given : List ℕ) (status : Status) → ReadsWhole limit before after input → given ≡ input
     → IsRefusedInput inbox_scripts given status → StopsBeforeText inbox_scripts before after status
 inbox_stops before after input given NoMemory read same none = (input, read.consumed, read.fits)
 inbox_stops before after input given (Script line cause) read same none = record {

@@ -3,8 +3,8 @@ use Rattle.std.specs.Prelude.{◌≡◌, ℕ, List, Option, Some, None, codes, t
 use Rattle.std.specs.Fmt.{decimal}
 use Rattle.clap.specs.Words.{App, Row, Rule, first_of, new_app, new_rule, one_of, with_rule, with_subcommand}
 use Rattle.clap.specs.declared.builder.ArgAction.TheVariants.{SetTrue}
-use Rattle.dashboard_cli.specs.declared.words.Command.{Command}
-use Rattle.dashboard_cli.specs.declared.words.Command.TheVariants.{Run, RunFree, Text, Migrate, Make, MakeRun, Trace, Check, Animate, Inbox}
+use Rattle.dashboard_cli.specs.declared.words.Subcommand.{Subcommand}
+use Rattle.dashboard_cli.specs.declared.words.Subcommand.TheVariants.{Run, RunFree, Text, Migrate, Make, MakeRun, Trace, Check, Animate, Inbox}
 
 -- a flag without a value
 abbrev pub flag_rule : List ℕ → Rule
@@ -51,7 +51,7 @@ dashboard_app =
     run_app) text_app) make_app) trace_app) check_app) animate_app) inbox_app
 
 -- the first word of a command
-abbrev pub name_of : Command → List ℕ
+abbrev pub name_of : Subcommand → List ℕ
 name_of Run = codes "run"
 name_of RunFree = codes "run"
 name_of Text = codes "text"
@@ -72,7 +72,7 @@ abbrev pub HasFree : List ℕ → List Row → Type 0
 HasFree free rows = one_of (codes "free") rows ≡ Some free
 
 -- the matches that stand for a command
-abbrev pub HasRows : Command → List Row → Type 0
+abbrev pub HasRows : Subcommand → List Row → Type 0
 HasRows Run rows = HasFree (codes "false") rows
 HasRows RunFree rows = HasFree (codes "true") rows
 HasRows Text rows = first_of (codes "to") rows ≡ None
@@ -82,5 +82,5 @@ HasRows (MakeRun number) rows = HasNumber (decimal number) (codes "true") rows
 HasRows command rows = Unit {0}
 
 -- the parser found the command: its subcommand, with its matches
-abbrev pub IsCommandFound : Command → Option (List ℕ × List Row) → Type 0
+abbrev pub IsCommandFound : Subcommand → Option (List ℕ × List Row) → Type 0
 IsCommandFound command found = IsSomeAnd found (λ f. (f.0 ≡ name_of command) × HasRows command f.1)

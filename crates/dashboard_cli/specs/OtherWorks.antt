@@ -19,7 +19,7 @@ use Rattle.inbox_queue.specs.declared.run.InboxReport.{InboxReport}
 use Rattle.inbox_queue.specs.InboxRun.{IsInboxRun}
 use Rattle.dashboard_cli.specs.Works.{limit, Input, Says, Writes, nothing_returned, only_report}
 use Rattle.dashboard_cli.specs.declared.making.Returned.{Returned}
-use Rattle.dashboard_cli.specs.declared.status.Cause.TheVariants as cause
+use Rattle.dashboard_cli.specs.declared.status.LineCause.TheVariants as cause
 use Rattle.dashboard_cli.specs.declared.status.Status.{Status}
 use Rattle.dashboard_cli.specs.declared.status.Status.TheVariants.{Script, Trace}
 use Rattle.dashboard_cli.specs.InboxText.{inbox_text}

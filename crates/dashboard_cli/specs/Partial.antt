@@ -4,10 +4,10 @@ use Rattle.std.specs.Io.KnownBytes.{Consumes}
 use Rattle.dashboard_cli.specs.declared.reading.ReadError.{ReadError}
 use Rattle.dashboard_cli.specs.declared.reading.ReadError.TheVariants.{Failed, TooLong}
 use Rattle.loop_io.specs.Causes.{one_more}
-use Rattle.dashboard_cli.specs.Works.{KnownBytes}
+use Rattle.dashboard_cli.specs.Works.{ToldBytes}
 
 -- some bytes were read, at most one more than the limit, and one more exactly where the input is too long
-pub record ReadsPart (most : ℕ) (before after : KnownBytes) (error : ReadError) : Type 0 where
+pub record ReadsPart (most : ℕ) (before after : ToldBytes) (error : ReadError) : Type 0 where
   pub input : List ℕ
   pub consumed : Consumes before after input
   pub bounded : length input ≤ most + 1

@@ -1,10 +1,10 @@
 -- The table of the statuses: the code that the process ends with, and the text on standard error.
 use Rattle.std.specs.Prelude.{ℕ, List, [], ◌++◌, codes}
 use Rattle.std.specs.Fmt.{decimal}
-use Rattle.dash_script.specs.declared.refusal.Cause.{Cause as TextCause}
+use Rattle.dash_script.specs.declared.refusal.Cause.{Cause}
 use Rattle.dash_script.specs.declared.refusal.Cause.TheVariants.{Form, Range, Unknown, Order, TooMany, Missing}
-use Rattle.dashboard_cli.specs.declared.status.Cause.{Cause}
-use Rattle.dashboard_cli.specs.declared.status.Cause.TheVariants.{Text, Inbox}
+use Rattle.dashboard_cli.specs.declared.status.LineCause.{LineCause}
+use Rattle.dashboard_cli.specs.declared.status.LineCause.TheVariants.{Text, Inbox}
 use Rattle.dashboard_cli.specs.declared.status.Status.{Status}
 use Rattle.dashboard_cli.specs.declared.status.Status.TheVariants.{Ok, Usage, Script, ReadFault, WriteFault, NoMemory, TooLong, Trace}
 
@@ -20,7 +20,7 @@ code_of TooLong = 7
 code_of (Trace line) = 8
 
 -- the word for what is wrong with a line of a text
-abbrev pub text_word : TextCause → List ℕ
+abbrev pub text_word : Cause → List ℕ
 text_word Form = codes "form"
 text_word Range = codes "range"
 text_word Unknown = codes "unknown"
@@ -29,7 +29,7 @@ text_word TooMany = codes "toomany"
 text_word Missing = codes "missing"
 
 -- the word for why a line is refused
-abbrev pub cause_word : Cause → List ℕ
+abbrev pub cause_word : LineCause → List ℕ
 cause_word (Text cause) = text_word cause
 cause_word Inbox = codes "inbox"
 

@@ -1,22 +1,18 @@
 -- What the steps of the top call answer.
-use Rattle.std.specs.Prelude.{ℕ, List, Bool, ◌≡◌, ◌+◌, ◌≤◌, length}
+use Rattle.std.specs.Prelude.{ℕ, List, ◌≡◌, ◌+◌, ◌≤◌, length}
 use Rattle.std.specs.Io.KnownBytes.{Consumes}
-use Rattle.dash_script.specs.Accepting.{IsScriptText}
-use Rattle.run_model.specs.Run.{IsStaged}
-use Rattle.run_model.specs.ByClock.{IsStagedByClock}
-use Rattle.run_model.specs.declared.report.Report.{Report}
-use Rattle.dashboard_cli.specs.Works.{limit, KnownBytes, ReadsWhole, Input, Work}
+use Rattle.dashboard_cli.specs.Works.{ToldBytes, Input, Work}
 use Rattle.dashboard_cli.specs.declared.making.Product.{Product}
 use Rattle.dashboard_cli.specs.declared.status.Status.{Status}
 use Rattle.dashboard_cli.specs.declared.status.Status.TheVariants.{Script, ReadFault, NoMemory, TooLong, Trace}
 use Rattle.dashboard_cli.specs.Answers.{MakesOf, IsRefused, IsTooLong, ReadsAtMost}
 
 -- the text, and what is returned beside it, are what this work makes of its input
-abbrev pub MakesProduct : Work → KnownBytes → KnownBytes → Product → Type 0
+abbrev pub MakesProduct : Work → ToldBytes → ToldBytes → Product → Type 0
 MakesProduct work before after product = MakesOf work before after product.text.items product.returned
 
 -- why a command stopped before its text was made
-abbrev pub StopsBeforeText : Input → KnownBytes → KnownBytes → Status → Type 0
+abbrev pub StopsBeforeText : Input → ToldBytes → ToldBytes → Status → Type 0
 StopsBeforeText wanted before after ReadFault = ReadsAtMost wanted.most before after
 StopsBeforeText wanted before after TooLong = IsTooLong wanted.most before after
 StopsBeforeText wanted before after (Script line cause) = IsRefused wanted before after (Script line cause)
@@ -25,33 +21,19 @@ StopsBeforeText wanted before after NoMemory = ReadsAtMost wanted.most before af
 StopsBeforeText wanted before after status = ⊥
 
 -- so many bytes and one more were read
-abbrev pub ReadsPast : ℕ → KnownBytes → KnownBytes → Type 0
+abbrev pub ReadsPast : ℕ → ToldBytes → ToldBytes → Type 0
 ReadsPast most before after = (input : List ℕ) × Consumes before after input × (length input ≡ most + 1)
 
 -- no more bytes were read than these
-abbrev pub ReadsWithin : ℕ → KnownBytes → KnownBytes → Type 0
+abbrev pub ReadsWithin : ℕ → ToldBytes → ToldBytes → Type 0
 ReadsWithin most before after = (input : List ℕ) × Consumes before after input × (length input ≤ most)
 
 -- why an input was not read whole
-abbrev pub StopsReading : ℕ → KnownBytes → KnownBytes → Status → Type 0
+abbrev pub StopsReading : ℕ → ToldBytes → ToldBytes → Status → Type 0
 StopsReading most before after ReadFault = ReadsWithin most before after
 StopsReading most before after TooLong = ReadsPast most before after
 StopsReading most before after NoMemory = ReadsWithin most before after
 StopsReading most before after status = ⊥
-
--- this report is of a run of the script that the input is the text of
-pub record IsRunOfInput (before after : KnownBytes) (report : Report) : Type 0 where
-  pub input : List ℕ
-  pub read : ReadsWhole limit before after input
-  pub text : IsScriptText input report.script
-  pub runs : IsStaged report.script report
-
--- the same of a run by a clock that shows such numbers
-pub record IsFreeRunOfInput (shows : ℕ → Bool) (before after : KnownBytes) (report : Report) : Type 0 where
-  pub input : List ℕ
-  pub read : ReadsWhole limit before after input
-  pub text : IsScriptText input report.script
-  pub runs : IsStagedByClock shows report.script report
 
 -- the status refuses the input, which is none that is taken, or there was no memory
 abbrev pub IsRefusedInput : Input → List ℕ → Status → Type 0

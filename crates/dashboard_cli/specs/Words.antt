@@ -10,16 +10,16 @@ use Rattle.dashboard_cli.specs.Works.{script_inputs, Input, Work, Writes, only_r
 use Rattle.dashboard_cli.specs.OtherWorks.{inbox_scripts, plan_inputs, trace_inputs, no_input, IsGenerated, Prints, Migrates, Sums, WritesHistories, Checks}
 use Rattle.dashboard_cli.specs.OtherWorks.{Animates}
 use Rattle.dashboard_cli.specs.OtherWorks.{RunsInbox}
-use Rattle.dashboard_cli.specs.declared.words.Command.{Command}
+use Rattle.dashboard_cli.specs.declared.words.Subcommand.{Subcommand}
 use Rattle.dashboard_cli.specs.declared.making.Returned.{Returned}
-use Rattle.dashboard_cli.specs.declared.words.Command.TheVariants as command
+use Rattle.dashboard_cli.specs.declared.words.Subcommand.TheVariants as command
 
 -- the words as texts
 abbrev pub texts : List (String Global) → List (List ℕ)
 texts = map string_bytes
 
 -- the words are a spelling of the command
-abbrev pub IsSpelled : Command → List (List ℕ) → Type 0
+abbrev pub IsSpelled : Subcommand → List (List ℕ) → Type 0
 IsSpelled command.Run words = words ≡ codes "run" ∷ []
 IsSpelled command.RunFree words = words ≡ codes "run" ∷ codes "--free" ∷ []
 IsSpelled command.Text words = words ≡ codes "text" ∷ []
@@ -33,20 +33,20 @@ IsSpelled (command.MakeRun number) words = (words ≡ codes "make" ∷ decimal n
     ⊎ (words ≡ codes "make" ∷ codes "--run" ∷ decimal number ∷ [])
 
 -- the number of the command is a u32; the words are this command, and some command
-abbrev pub IsInRange : Command → Type 0
+abbrev pub IsInRange : Subcommand → Type 0
 IsInRange (command.Make number) = number < 2 ^ 32
 IsInRange (command.MakeRun number) = number < 2 ^ 32
 IsInRange command = Unit {0}
 
-pub record IsAsked (words : List (List ℕ)) (command : Command) : Type 0 where
+pub record IsAsked (words : List (List ℕ)) (command : Subcommand) : Type 0 where
   pub fits : IsInRange command
   pub spelled : IsSpelled command words
 
 abbrev pub IsListed : List (List ℕ) → Type 0
-IsListed words = (command : Command) × IsAsked words command
+IsListed words = (command : Subcommand) × IsAsked words command
 
 -- what each command reads: a script, but for these
-abbrev pub reads_of : Command → Input
+abbrev pub reads_of : Subcommand → Input
 reads_of (command.Make number) = no_input
 reads_of (command.MakeRun number) = no_input
 reads_of command.Check = trace_inputs
@@ -55,7 +55,7 @@ reads_of command.Inbox = inbox_scripts
 reads_of _ = script_inputs
 
 -- what each command makes of it, by the numbers that the clock shows
-abbrev pub makes_by : (ℕ → Bool) → Command → List ℕ → List ℕ → Returned → Type 0
+abbrev pub makes_by : (ℕ → Bool) → Subcommand → List ℕ → List ℕ → Returned → Type 0
 makes_by shows command.Run = Writes IsScriptText IsStaged report_text only_report
 makes_by shows command.RunFree = Writes IsScriptText (IsStagedByClock shows) report_text only_report
 makes_by shows command.Text = Prints IsScriptText (λ script. script)
@@ -68,8 +68,8 @@ makes_by shows command.Animate = Animates
 makes_by shows command.Inbox = RunsInbox
 
 -- what this command does; and one that reads no clock
-abbrev pub work_by : (ℕ → Bool) → Command → Work
+abbrev pub work_by : (ℕ → Bool) → Subcommand → Work
 work_by shows c = record { reads = reads_of c; Makes = makes_by shows c }
 
-abbrev pub work : Command → Work
+abbrev pub work : Subcommand → Work
 work c = work_by (λ reading. true) c

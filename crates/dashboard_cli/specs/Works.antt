@@ -4,15 +4,15 @@ use Rattle.std.specs.Io.KnownBytes.{Consumes, IsAtEnd}
 use Rattle.dash_script.specs.Accepting.{IsScriptRefusal, IsScriptText}
 use Rattle.run_model.specs.declared.report.Report.{Report}
 use Rattle.dashboard_cli.specs.declared.making.Returned.{Returned}
-use Rattle.dashboard_cli.specs.declared.status.Cause.TheVariants as cause
+use Rattle.dashboard_cli.specs.declared.status.LineCause.TheVariants as cause
 use Rattle.dashboard_cli.specs.declared.status.Status.{Status}
 use Rattle.dashboard_cli.specs.declared.status.Status.TheVariants.{Script}
 
 -- the bytes that a source has left, or that a sink holds, where it tells them; and this input was read to its end, and it is no longer than the limit
-abbrev pub KnownBytes : Type 0
-KnownBytes = Option (List ℕ)
+abbrev pub ToldBytes : Type 0
+ToldBytes = Option (List ℕ)
 
-pub record ReadsWhole (most : ℕ) (before after : KnownBytes) (input : List ℕ) : Type 0 where
+pub record ReadsWhole (most : ℕ) (before after : ToldBytes) (input : List ℕ) : Type 0 where
   pub consumed : Consumes before after input
   pub ended : IsAtEnd after
   pub fits : length input ≤ most

@@ -11,8 +11,8 @@ ghost use Rattle.value_animator.specs.Plans.{AreValues};
 ghost use Rattle.value_animator.specs.Reading.{IsPlanText};
 
 use crate::reading::{ReadError, read_whole};
-use crate::status::{Cause, Status};
-use dash_script::{Cause as TextCause, Parsed, Script, parse};
+use crate::status::{LineCause, Status};
+use dash_script::{Cause, Parsed, Script, parse};
 use loop_io::Source;
 use std::alloc::Global;
 use trace_check::{ParsedTrace, Trace, parse_trace};
@@ -39,12 +39,12 @@ pub(crate) fn read_input<S: Source>(
 }
 
 /// The status of a text whose least bad line is this one.
-fn bad_text(line: u64, cause: TextCause) -> Status
-    ensures { result ≡ Status.Script line (Cause.Text cause) }
+fn bad_text(line: u64, cause: Cause) -> Status
+    ensures { result ≡ Status.Script line (LineCause.Text cause) }
 {
     Status::Script {
         line,
-        cause: Cause::Text(cause),
+        cause: LineCause::Text(cause),
     }
 }
 

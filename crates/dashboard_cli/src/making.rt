@@ -1,26 +1,23 @@
 // The text of each command, made whole before it is written.
 ghost use Rattle.std.specs.Prelude.{◌≡◌, [], None, IfErr, IfOk};
-ghost use Rattle.dash_script.specs.Reading.{HasText};
 ghost use Rattle.dashboard_cli.specs.Answers.{CountsReads};
-ghost use Rattle.dashboard_cli.specs.Steps.{IsRunOfInput, IsFreeRunOfInput, StopsBeforeText, IsRefusedInput, MakesProduct};
+ghost use Rattle.dashboard_cli.specs.Steps.{StopsBeforeText, IsRefusedInput, MakesProduct};
 ghost use Rattle.dashboard_cli.specs.Works.{script_inputs};
 ghost use Rattle.dashboard_cli.specs.OtherWorks.{inbox_scripts, plan_inputs, trace_inputs, IsInboxText};
 ghost use Rattle.dashboard_cli.specs.Words.{work, work_by};
 ghost use Rattle.inbox_queue.specs.InboxRun.{IsInboxRun};
-ghost use Rattle.run_model.specs.Run.{IsStaged};
-ghost use Rattle.run_model.specs.ByClock.{IsStagedByClock};
 ghost use Rattle.value_animator.specs.Plans.{AreValues};
 ghost use Rattle.value_animator.specs.Run.{IsRunOf};
 
 use crate::inbox::inbox_text;
 use crate::inputs::{read_input, read_plan, read_script, read_trace};
 use crate::reading::{MOST_BYTES, MOST_TRACE_BYTES};
-use crate::status::{Cause, Status};
+use crate::status::{LineCause, Status};
 use crate::verdict::{judge, verdict_text};
-use crate::words::Command;
+use crate::words::Subcommand;
 use dash_report::{report_text, summary_text};
 use dash_script::{Script, make_script, migrate, print};
-use dash_stage::{Ran, run_free, run_script};
+use dash_stage::{run_free, run_script};
 use frame_phases::FrameRecord;
 use inbox_queue::{InboxRan, InboxReport, run_inbox};
 use loop_io::{Clock, Gate, Source};
@@ -114,7 +111,7 @@ pub(crate) fn produce<
 >(
     rt: &R,
     alloc: Global,
-    command: Command,
+    command: Subcommand,
     source: &mut S,
     clock: &C,
     gate: &G,
@@ -126,16 +123,16 @@ pub(crate) fn produce<
     ensures failed { IfErr result (λ status. CountsReads status (S.faults source.old) (S.faults source.new)) }
 {
     match command {
-        Command::Run => run_input(rt, alloc, source, gate),
-        Command::RunFree => run_input_free(rt, alloc, source, clock, gate),
-        Command::Text => print_input(alloc, source),
-        Command::Migrate => migrate_input(alloc, source),
-        Command::Make { number } => print_made(alloc, number),
-        Command::MakeRun { number } => run_made(rt, alloc, number, gate),
-        Command::Trace => trace_input(rt, alloc, source, gate),
-        Command::Check => check_input(alloc, source),
-        Command::Animate => animate_input(alloc, source),
-        Command::Inbox => inbox_input(rt, alloc, source, gate),
+        Subcommand::Run => run_input(rt, alloc, source, gate),
+        Subcommand::RunFree => run_input_free(rt, alloc, source, clock, gate),
+        Subcommand::Text => print_input(alloc, source),
+        Subcommand::Migrate => migrate_input(alloc, source),
+        Subcommand::Make { number } => print_made(alloc, number),
+        Subcommand::MakeRun { number } => run_made(rt, alloc, number, gate),
+        Subcommand::Trace => trace_input(rt, alloc, source, gate),
+        Subcommand::Check => check_input(alloc, source),
+        Subcommand::Animate => animate_input(alloc, source),
+        Subcommand::Inbox => inbox_input(rt, alloc, source, gate),
     }
 }
 
@@ -146,12 +143,14 @@ fn run_input<R: Threads + Wait + Sync, S: Source, G: Gate + Sync>(
     source: &mut S,
     gate: &G,
 ) -> Result<Product, Status>
-    ensures made { IfOk result (MakesProduct (work Command.Run) (S.left source.old) (S.left source.new)) }
+    ensures made { IfOk result (MakesProduct (work Subcommand.Run) (S.left source.old) (S.left source.new)) }
     ensures stopped { IfErr result (StopsBeforeText script_inputs (S.left source.old) (S.left source.new)) }
     ensures sound { IfOk result (λ _. S.faults source.new ≡ S.faults source.old) }
     ensures failed { IfErr result (λ status. CountsReads status (S.faults source.old) (S.faults source.new)) }
 {
-    let report = read_and_run(rt, alloc, source, gate)?;
+    let input = read_input(alloc, source, MOST_BYTES)?;
+    let script = read_script(alloc, input.as_slice())?;
+    let report = run_script(rt, alloc, script, gate)?;
     let text = report_text(alloc, &report)?;
     let returned = Returned::report(report);
     Ok(Product { text, returned })
@@ -164,12 +163,14 @@ fn run_input_free<
     C: Clock + Sync,
     G: Gate + Sync,
 >(rt: &R, alloc: Global, source: &mut S, clock: &C, gate: &G) -> Result<Product, Status>
-    ensures made { IfOk result (MakesProduct (work_by (C.shows clock.now) Command.RunFree) (S.left source.old) (S.left source.new)) }
+    ensures made { IfOk result (MakesProduct (work_by (C.shows clock.now) Subcommand.RunFree) (S.left source.old) (S.left source.new)) }
     ensures stopped { IfErr result (StopsBeforeText script_inputs (S.left source.old) (S.left source.new)) }
     ensures sound { IfOk result (λ _. S.faults source.new ≡ S.faults source.old) }
     ensures failed { IfErr result (λ status. CountsReads status (S.faults source.old) (S.faults source.new)) }
 {
-    let report = read_and_run_free(rt, alloc, source, clock, gate)?;
+    let input = read_input(alloc, source, MOST_BYTES)?;
+    let script = read_script(alloc, input.as_slice())?;
+    let report = run_free(rt, alloc, script, clock, gate)?;
     let text = report_text(alloc, &report)?;
     let returned = Returned::report(report);
     Ok(Product { text, returned })
@@ -177,7 +178,7 @@ fn run_input_free<
 
 /// Reads a script, and prints it.
 fn print_input<S: Source>(alloc: Global, source: &mut S) -> Result<Product, Status>
-    ensures made { IfOk result (MakesProduct (work Command.Text) (S.left source.old) (S.left source.new)) }
+    ensures made { IfOk result (MakesProduct (work Subcommand.Text) (S.left source.old) (S.left source.new)) }
     ensures stopped { IfErr result (StopsBeforeText script_inputs (S.left source.old) (S.left source.new)) }
     ensures sound { IfOk result (λ _. S.faults source.new ≡ S.faults source.old) }
     ensures failed { IfErr result (λ status. CountsReads status (S.faults source.old) (S.faults source.new)) }
@@ -191,7 +192,7 @@ fn print_input<S: Source>(alloc: Global, source: &mut S) -> Result<Product, Stat
 
 /// Reads a script, and prints it as one of edition 2.
 fn migrate_input<S: Source>(alloc: Global, source: &mut S) -> Result<Product, Status>
-    ensures made { IfOk result (MakesProduct (work Command.Migrate) (S.left source.old) (S.left source.new)) }
+    ensures made { IfOk result (MakesProduct (work Subcommand.Migrate) (S.left source.old) (S.left source.new)) }
     ensures stopped { IfErr result (StopsBeforeText script_inputs (S.left source.old) (S.left source.new)) }
     ensures sound { IfOk result (λ _. S.faults source.new ≡ S.faults source.old) }
     ensures failed { IfErr result (λ status. CountsReads status (S.faults source.old) (S.faults source.new)) }
@@ -206,7 +207,7 @@ fn migrate_input<S: Source>(alloc: Global, source: &mut S) -> Result<Product, St
 
 /// Prints the script that is made from the number.
 fn print_made(alloc: Global, number: u32) -> Result<Product, Status>
-    ensures made { IfOk result (λ product. (work (Command.Make number)).Makes [] product.text.items product.returned) }
+    ensures made { IfOk result (λ product. (work (Subcommand.Make number)).Makes [] product.text.items product.returned) }
     ensures stopped { IfErr result (λ status. status ≡ Status.NoMemory) }
 {
     let script = make_script(alloc, number)?;
@@ -222,11 +223,11 @@ fn run_made<R: Threads + Wait + Sync, G: Gate + Sync>(
     number: u32,
     gate: &G,
 ) -> Result<Product, Status>
-    ensures made { IfOk result (λ product. (work (Command.MakeRun number)).Makes [] product.text.items product.returned) }
+    ensures made { IfOk result (λ product. (work (Subcommand.MakeRun number)).Makes [] product.text.items product.returned) }
     ensures stopped { IfErr result (λ status. status ≡ Status.NoMemory) }
 {
-    let script = make_script(alloc, number)?;
-    let report = run(rt, alloc, script, gate)?;
+    let made = make_script(alloc, number)?;
+    let report = run_script(rt, alloc, made, gate)?;
     let text = summary_text(alloc, number, &report)?;
     let returned = Returned::report(report);
     Ok(Product { text, returned })
@@ -239,20 +240,22 @@ fn trace_input<R: Threads + Wait + Sync, S: Source, G: Gate + Sync>(
     source: &mut S,
     gate: &G,
 ) -> Result<Product, Status>
-    ensures made { IfOk result (MakesProduct (work Command.Trace) (S.left source.old) (S.left source.new)) }
+    ensures made { IfOk result (MakesProduct (work Subcommand.Trace) (S.left source.old) (S.left source.new)) }
     ensures stopped { IfErr result (StopsBeforeText script_inputs (S.left source.old) (S.left source.new)) }
     ensures sound { IfOk result (λ _. S.faults source.new ≡ S.faults source.old) }
     ensures failed { IfErr result (λ status. CountsReads status (S.faults source.old) (S.faults source.new)) }
 {
-    let report = read_and_run(rt, alloc, source, gate)?;
-    let text = print_records(alloc, report.queues.as_slice())?;
-    let returned = Returned::report(report);
+    let input = read_input(alloc, source, MOST_BYTES)?;
+    let script = read_script(alloc, input.as_slice())?;
+    let ran = run_script(rt, alloc, script, gate)?;
+    let text = print_records(alloc, ran.queues.as_slice())?;
+    let returned = Returned::report(ran);
     Ok(Product { text, returned })
 }
 
 /// Reads histories of queues, and tells whether each is legal.
 fn check_input<S: Source>(alloc: Global, source: &mut S) -> Result<Product, Status>
-    ensures made { IfOk result (MakesProduct (work Command.Check) (S.left source.old) (S.left source.new)) }
+    ensures made { IfOk result (MakesProduct (work Subcommand.Check) (S.left source.old) (S.left source.new)) }
     ensures stopped { IfErr result (StopsBeforeText trace_inputs (S.left source.old) (S.left source.new)) }
     ensures sound { IfOk result (λ _. S.faults source.new ≡ S.faults source.old) }
     ensures failed { IfErr result (λ status. CountsReads status (S.faults source.old) (S.faults source.new)) }
@@ -267,7 +270,7 @@ fn check_input<S: Source>(alloc: Global, source: &mut S) -> Result<Product, Stat
 
 /// Reads a plan of values, and runs it over frames.
 fn animate_input<S: Source>(alloc: Global, source: &mut S) -> Result<Product, Status>
-    ensures made { IfOk result (MakesProduct (work Command.Animate) (S.left source.old) (S.left source.new)) }
+    ensures made { IfOk result (MakesProduct (work Subcommand.Animate) (S.left source.old) (S.left source.new)) }
     ensures stopped { IfErr result (StopsBeforeText plan_inputs (S.left source.old) (S.left source.new)) }
     ensures sound { IfOk result (λ _. S.faults source.new ≡ S.faults source.old) }
     ensures failed { IfErr result (λ status. CountsReads status (S.faults source.old) (S.faults source.new)) }
@@ -287,7 +290,7 @@ fn inbox_input<R: Threads + Wait + Sync, S: Source, G: Gate + Sync>(
     source: &mut S,
     gate: &G,
 ) -> Result<Product, Status>
-    ensures made { IfOk result (MakesProduct (work Command.Inbox) (S.left source.old) (S.left source.new)) }
+    ensures made { IfOk result (MakesProduct (work Subcommand.Inbox) (S.left source.old) (S.left source.new)) }
     ensures stopped { IfErr result (StopsBeforeText inbox_scripts (S.left source.old) (S.left source.new)) }
     ensures sound { IfOk result (λ _. S.faults source.new ≡ S.faults source.old) }
     ensures failed { IfErr result (λ status. CountsReads status (S.faults source.old) (S.faults source.new)) }
@@ -297,75 +300,6 @@ fn inbox_input<R: Threads + Wait + Sync, S: Source, G: Gate + Sync>(
     let text = inbox_text(alloc, &report)?;
     let returned = Returned::inbox(report);
     Ok(Product { text, returned })
-}
-
-/// Reads a script and runs it.
-fn read_and_run<R: Threads + Wait + Sync, S: Source, G: Gate + Sync>(
-    rt: &R,
-    alloc: Global,
-    source: &mut S,
-    gate: &G,
-) -> Result<Report, Status>
-    ensures ran { IfOk result (IsRunOfInput (S.left source.old) (S.left source.new)) }
-    ensures stopped { IfErr result (StopsBeforeText script_inputs (S.left source.old) (S.left source.new)) }
-    ensures sound { IfOk result (λ _. S.faults source.new ≡ S.faults source.old) }
-    ensures failed { IfErr result (λ status. CountsReads status (S.faults source.old) (S.faults source.new)) }
-{
-    let input = read_input(alloc, source, MOST_BYTES)?;
-    let script = read_script(alloc, input.as_slice())?;
-    Ok(run(rt, alloc, script, gate)?)
-}
-
-/// Reads a script and runs it by the clock.
-fn read_and_run_free<
-    R: Threads + Wait + time::Clock + Sync,
-    S: Source,
-    C: Clock + Sync,
-    G: Gate + Sync,
->(rt: &R, alloc: Global, source: &mut S, clock: &C, gate: &G) -> Result<Report, Status>
-    ensures ran { IfOk result (IsFreeRunOfInput (C.shows clock.now) (S.left source.old) (S.left source.new)) }
-    ensures stopped { IfErr result (StopsBeforeText script_inputs (S.left source.old) (S.left source.new)) }
-    ensures sound { IfOk result (λ _. S.faults source.new ≡ S.faults source.old) }
-    ensures failed { IfErr result (λ status. CountsReads status (S.faults source.old) (S.faults source.new)) }
-{
-    let input = read_input(alloc, source, MOST_BYTES)?;
-    let script = read_script(alloc, input.as_slice())?;
-    Ok(run_by_clock(rt, alloc, script, clock, gate)?)
-}
-
-/// Runs a script by the clock.
-fn run_by_clock<R: Threads + Wait + time::Clock + Sync, C: Clock + Sync, G: Gate + Sync>(
-    rt: &R,
-    alloc: Global,
-    script: Script,
-    clock: &C,
-    gate: &G,
-) -> Result<Report, NoMemory>
-    requires { HasText script }
-    ensures run { IfOk result (λ report. IsStagedByClock (C.shows clock.now) script report) }
-    ensures of { IfOk result (λ report. report.script ≡ script) }
-{
-    match run_free(rt, alloc, script, clock, gate) {
-        Ran::Ok(report) => Ok(report),
-        Ran::NoMemory => Err(NoMemory),
-    }
-}
-
-/// Runs a script.
-fn run<R: Threads + Wait + Sync, G: Gate + Sync>(
-    rt: &R,
-    alloc: Global,
-    script: Script,
-    gate: &G,
-) -> Result<Report, NoMemory>
-    requires { HasText script }
-    ensures run { IfOk result (λ report. IsStaged script report) }
-    ensures of { IfOk result (λ report. report.script ≡ script) }
-{
-    match run_script(rt, alloc, script, gate) {
-        Ran::Ok(report) => Ok(report),
-        Ran::NoMemory => Err(NoMemory),
-    }
 }
 
 /// Runs the script of a text through an inbox.
@@ -383,7 +317,7 @@ fn run_with_inbox<R: Threads + Wait + Sync, G: Gate + Sync>(
         InboxRan::Ok(report) => Ok(report),
         InboxRan::Bad { line } => Err(Status::Script {
             line,
-            cause: Cause::Inbox,
+            cause: LineCause::Inbox,
         }),
         InboxRan::NoMemory => Err(Status::NoMemory),
     }

@@ -2,16 +2,16 @@
 ghost use Rattle.std.specs.Prelude.{◌≡◌, IfOk, string_bytes};
 ghost use Rattle.dashboard_cli.specs.Status.{cause_word, status_line, text_word};
 
-use dash_script::Cause as TextCause;
+use dash_script::Cause;
 use loop_model::NoMemory;
 use std::alloc::Global;
 use std::fmt;
 
 /// Why a line is refused.
 #[derive(Clone, Copy, Debug, PartialEq, Eq)]
-pub enum Cause {
+pub enum LineCause {
     /// It may not stand there in the text of a script or of a plan.
-    Text(TextCause),
+    Text(Cause),
     /// It is a line of a script that a run through an inbox doesn't know.
     Inbox,
 }
@@ -24,7 +24,7 @@ pub enum Status {
     /// The words are no command.
     Usage,
     /// The input is refused: its least bad line, counted from 1, and why that line is bad.
-    Script { line: u64, cause: Cause },
+    Script { line: u64, cause: LineCause },
     /// The source failed.
     ReadFault,
     /// The sink failed.
@@ -59,26 +59,26 @@ impl Status {
 }
 
 /// The word for what is wrong with a line of a text.
-fn text_word(cause: TextCause) -> &'static str
+fn text_word(cause: Cause) -> &'static str
     ensures { result.now ≡ text_word cause }
 {
     match cause {
-        TextCause::Form => "form",
-        TextCause::Range => "range",
-        TextCause::Unknown => "unknown",
-        TextCause::Order => "order",
-        TextCause::TooMany => "toomany",
-        TextCause::Missing => "missing",
+        Cause::Form => "form",
+        Cause::Range => "range",
+        Cause::Unknown => "unknown",
+        Cause::Order => "order",
+        Cause::TooMany => "toomany",
+        Cause::Missing => "missing",
     }
 }
 
 /// The word for why a line is refused.
-fn cause_word(cause: Cause) -> &'static str
+fn cause_word(cause: LineCause) -> &'static str
     ensures { result.now ≡ cause_word cause }
 {
     match cause {
-        Cause::Text(cause) => text_word(cause),
-        Cause::Inbox => "inbox",
+        LineCause::Text(cause) => text_word(cause),
+        LineCause::Inbox => "inbox",
     }
 }
 

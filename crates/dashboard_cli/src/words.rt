@@ -12,7 +12,7 @@ use std::alloc::{AllocError, Global};
 
 /// What the program is asked to do.
 #[derive(Clone, Copy, Debug, PartialEq, Eq)]
-pub enum Command {
+pub enum Subcommand {
     /// Reads a script, runs it in lockstep and writes the report.
     Run,
     /// Reads a script, runs it by the clock and writes the report.
@@ -37,7 +37,7 @@ pub enum Command {
 
 /// Reads the words: a command exactly where they are a spelling of one, else None. NoMemory where it found none. The spellings
 /// are this project's profile.
-pub fn read_words(alloc: Global, words: &[String]) -> Result<Option<Command>, NoMemory>
+pub fn read_words(alloc: Global, words: &[String]) -> Result<Option<Subcommand>, NoMemory>
     ensures command { IfOk result (λ found. IfSome found (IsAsked (texts words.now))) }
     ensures none { IfOk result (λ found. IfNone found (¬ (IsListed (texts words.now)))) }
 {
@@ -58,7 +58,7 @@ pub fn read_words(alloc: Global, words: &[String]) -> Result<Option<Command>, No
 }
 
 /// The answer where the parser refuses the words.
-fn refused(error: &clap::Error) -> Result<Option<Command>, NoMemory>
+fn refused(error: &clap::Error) -> Result<Option<Subcommand>, NoMemory>
     ensures { IfOk result (λ found. (found ≡ None) × (kind_of error.now ≢ ErrorKind.OutOfMemory)) }
 {
     match error.kind() {
@@ -124,80 +124,80 @@ fn make_line<'a>(alloc: Global) -> Result<clap::Command<'a>, AllocError>
 }
 
 /// The command that the parser found.
-fn command_found(matches: &ArgMatches<'_>) -> Option<Command>
-    ensures { (command : Command) → IsInRange command → IsCommandFound command (subcommand_rows_of matches.now) → result ≡ Some command }
+fn command_found(matches: &ArgMatches<'_>) -> Option<Subcommand>
+    ensures { (command : Subcommand) → IsInRange command → IsCommandFound command (subcommand_rows_of matches.now) → result ≡ Some command }
 {
     let (name, inner) = matches.subcommand()?;
     match name {
         "run" => Some(run_found(inner)),
         "text" => text_found(inner),
         "make" => make_found(inner),
-        "trace" => Some(Command::Trace),
-        "check" => Some(Command::Check),
-        "animate" => Some(Command::Animate),
-        "inbox" => Some(Command::Inbox),
+        "trace" => Some(Subcommand::Trace),
+        "check" => Some(Subcommand::Check),
+        "animate" => Some(Subcommand::Animate),
+        "inbox" => Some(Subcommand::Inbox),
         _ => None,
     }
 }
 
 /// The command that the parser found behind `run`.
-fn run_found(matches: &ArgMatches<'_>) -> Command
-    ensures { (command : Command) → IsInRange command → name_of command ≡ codes "run"
+fn run_found(matches: &ArgMatches<'_>) -> Subcommand
+    ensures { (command : Subcommand) → IsInRange command → name_of command ≡ codes "run"
         → HasRows command (rows_of (found_of matches.now)) → result ≡ command }
 {
     if matches.get_flag("free") {
-        Command::RunFree
+        Subcommand::RunFree
     } else {
-        Command::Run
+        Subcommand::Run
     }
 }
 
 /// The command that the parser found behind `text`.
-fn text_found(matches: &ArgMatches<'_>) -> Option<Command>
-    ensures { (command : Command) → name_of command ≡ codes "text"
+fn text_found(matches: &ArgMatches<'_>) -> Option<Subcommand>
+    ensures { (command : Subcommand) → name_of command ≡ codes "text"
         → HasRows command (rows_of (found_of matches.now)) → result ≡ Some command }
 {
     let Some(edition) = matches.get_str("to") else {
-        return Some(Command::Text);
+        return Some(Subcommand::Text);
     };
     if edition == "2" {
-        Some(Command::Migrate)
+        Some(Subcommand::Migrate)
     } else {
         None
     }
 }
 
 /// The command that the parser found behind `make`.
-fn make_found(matches: &ArgMatches<'_>) -> Option<Command>
-    ensures { (command : Command) → IsInRange command → name_of command ≡ codes "make"
+fn make_found(matches: &ArgMatches<'_>) -> Option<Subcommand>
+    ensures { (command : Subcommand) → IsInRange command → name_of command ≡ codes "make"
         → HasRows command (rows_of (found_of matches.now)) → result ≡ Some command }
 {
     let number = matches.get_str("number")?.parse::<u32>().ok()?;
     if matches.get_flag("run") {
-        Some(Command::MakeRun { number })
+        Some(Subcommand::MakeRun { number })
     } else {
-        Some(Command::Make { number })
+        Some(Subcommand::Make { number })
     }
 }
 
 /// Whether the words are a spelling of the command.
-fn is_spelled(alloc: Global, command: Command, words: &[String]) -> Result<bool, AllocError>
+fn is_spelled(alloc: Global, command: Subcommand, words: &[String]) -> Result<bool, AllocError>
     ensures { IfOk result (λ same. IsTrue same ↔ IsSpelled command (texts words.now)) }
 {
     Ok(match command {
-        Command::Run => are_same(words, &["run"]),
-        Command::RunFree => are_same(words, &["run", "--free"]),
-        Command::Text => are_same(words, &["text"]),
-        Command::Migrate => are_same(words, &["text", "--to", "2"]),
-        Command::Trace => are_same(words, &["trace"]),
-        Command::Check => are_same(words, &["check"]),
-        Command::Animate => are_same(words, &["animate"]),
-        Command::Inbox => are_same(words, &["inbox"]),
-        Command::Make { number } => {
+        Subcommand::Run => are_same(words, &["run"]),
+        Subcommand::RunFree => are_same(words, &["run", "--free"]),
+        Subcommand::Text => are_same(words, &["text"]),
+        Subcommand::Migrate => are_same(words, &["text", "--to", "2"]),
+        Subcommand::Trace => are_same(words, &["trace"]),
+        Subcommand::Check => are_same(words, &["check"]),
+        Subcommand::Animate => are_same(words, &["animate"]),
+        Subcommand::Inbox => are_same(words, &["inbox"]),
+        Subcommand::Make { number } => {
             let digits = number.to_string(alloc)?;
             are_same(words, &["make", digits.as_str()])
         }
-        Command::MakeRun { number } => {
+        Subcommand::MakeRun { number } => {
             let digits = number.to_string(alloc)?;
             are_same(words, &["make", digits.as_str(), "--run"])
                 || are_same(words, &["make", "--run", digits.as_str()])

@@ -1,4 +1,4 @@
--- The place of the first of some causes that passes a test.
+-- The place of the first of some endings that passes a test.
 use Rattle.std.proofs.Common.{◌≡◌, ◌≤◌, ◌+◌, ℕ, Bool, true, false, cond, List, [], ◌∷◌, ◌++◌, length, Option, Some, None, refl, sym, ap, ◌∙◌, subst, arith, min, append_assoc, length-append}
 use Rattle.std.specs.Prelude.{◌==◌, ◌&&◌, ◌||◌, find, slice_get, map}
 use Rattle.std.specs.Option.{unwrap_or, option_cmp, is_some}
@@ -11,13 +11,13 @@ use Rattle.loop_model.specs.declared.post.Post.{Post}
 use Rattle.loop_model.specs.declared.post.Kind.{Kind}
 use Rattle.loop_model.specs.declared.post.Kind.TheVariants.{What, Callback, All as AnyKind}
 use Rattle.loop_model.specs.Items.{is_just, is_of_kind, has_object}
-use Rattle.fate_ledger.specs.declared.cause.Cause.{Cause}
-use Rattle.fate_ledger.specs.declared.cause.Cause.TheVariants.{Removal, Dispatch, Everything, SafeQuit, Nothing}
+use Rattle.fate_ledger.specs.declared.ending.Ending.{Ending}
+use Rattle.fate_ledger.specs.declared.ending.Ending.TheVariants.{Removal, Dispatch, Everything, SafeQuit, Nothing}
 use Rattle.fate_ledger.specs.declared.keys.RemovalKey.{RemovalKey}
 use Rattle.fate_ledger.specs.Keys.{key_cmp, removal_key, is_same, is_same_name}
 use Rattle.fate_ledger.specs.Behind.{names, removes_with, removes, is_dispatch, is_everything, is_quit_before, ends_post, first_at}
 
-first_past : (p : Cause → Bool) (k : ℕ) (cs : List Cause) → k ≤ first_at p k cs
+first_past : (p : Ending → Bool) (k : ℕ) (cs : List Ending) → k ≤ first_at p k cs
 first_past p k [] = omega arith
 first_past p k (c ∷ cs) = go (p c) (first_past p (k + 1) cs)
   where
@@ -26,7 +26,7 @@ first_past p k (c ∷ cs) = go (p c) (first_past p (k + 1) cs)
     go false h = omega (arith, h)
 
 -- the earlier of two firsts is the first that passes either test
-pub first_either : (p q r : Cause → Bool) → ((c : Cause) → r c ≡ (p c || q c)) → (k : ℕ) (cs : List Cause) → min (first_at p k cs) (first_at q k cs) ≡ first_at r k cs
+pub first_either : (p q r : Ending → Bool) → ((c : Ending) → r c ≡ (p c || q c)) → (k : ℕ) (cs : List Ending) → min (first_at p k cs) (first_at q k cs) ≡ first_at r k cs
 first_either p q r either k [] = omega arith
 first_either p q r either k (c ∷ cs) = rw (either c) (go (p c) (q c) (first_either p q r either (k + 1) cs))
   where
@@ -36,7 +36,7 @@ first_either p q r either k (c ∷ cs) = rw (either c) (go (p c) (q c) (first_ei
     go false true h = omega (arith, first_past p (k + 1) cs)
     go false false h = h
 
-pub first_same : (p q : Cause → Bool) → ((c : Cause) → q c ≡ p c) → (k : ℕ) (cs : List Cause) → first_at p k cs ≡ first_at q k cs
+pub first_same : (p q : Ending → Bool) → ((c : Ending) → q c ≡ p c) → (k : ℕ) (cs : List Ending) → first_at p k cs ≡ first_at q k cs
 first_same p q same k [] = refl
 first_same p q same k (c ∷ cs) = rw (same c, first_same p q same (k + 1) cs) refl
 
@@ -75,10 +75,10 @@ written_place false s k d o n same was = rw (sym same) was
 abbrev key_with : Post → Option ℕ → Option ℕ → Option ℕ → RemovalKey
 key_with p w c o = record { handler = p.handler; what = w; callback = c; obj = o }
 
-abbrev plainly : Post → Option ℕ → Cause → Bool
+abbrev plainly : Post → Option ℕ → Ending → Bool
 plainly p o c = names (key_with p None None o) c || names (key_with p (Some p.what) None o) c
 
-pub with_what : (p : Post) (o : Option ℕ) → is_some p.callback ≡ false → (c : Cause) → removes_with o p c ≡ plainly p o c
+pub with_what : (p : Post) (o : Option ℕ) → is_some p.callback ≡ false → (c : Ending) → removes_with o p c ≡ plainly p o c
 with_what p o none (Removal f) = go f.kind
   where
     none_is : (o : Option ℕ) → is_some o ≡ false → o ≡ None
@@ -98,10 +98,10 @@ some_is : (o : Option ℕ) → is_some o ≡ true → o ≡ Some (unwrap_or o 0)
 some_is None h = absurd cc
 some_is (Some y) h = refl
 
-abbrev also_called : Post → Option ℕ → Cause → Bool
+abbrev also_called : Post → Option ℕ → Ending → Bool
 also_called p o c = plainly p o c || names (key_with p None p.callback o) c
 
-with_callback : (p : Post) (o : Option ℕ) → is_some p.callback ≡ true → (c : Cause) → removes_with o p c ≡ also_called p o c
+with_callback : (p : Post) (o : Option ℕ) → is_some p.callback ≡ true → (c : Ending) → removes_with o p c ≡ also_called p o c
 with_callback p o some (Removal f) = go f.kind p.callback (some_is p.callback some)
   where
     go : (k : Kind) (b : Option ℕ) → b ≡ Some (unwrap_or b 0) → (p.handler == f.handler && is_of_kind k (record { handler = p.handler; what = p.what; arg = p.arg; obj = p.obj; callback = b; when = p.when; asynchronous = p.asynchronous; slot = p.slot }) && is_same o f.obj) ≡ ((is_same_name (key_with p None None o) (removal_key (record { handler = f.handler; kind = k; obj = f.obj })) || is_same_name (key_with p (Some p.what) None o) (removal_key (record { handler = f.handler; kind = k; obj = f.obj }))) || is_same_name (key_with p None b o) (removal_key (record { handler = f.handler; kind = k; obj = f.obj })))
@@ -114,16 +114,16 @@ with_callback p o some Everything = refl
 with_callback p o some (SafeQuit now) = refl
 with_callback p o some Nothing = refl
 
-pub first_plainly : (p : Post) (o : Option ℕ) → is_some p.callback ≡ false → (k : ℕ) (cs : List Cause) → min (first_at (names (key_with p None None o)) k cs) (first_at (names (key_with p (Some p.what) None o)) k cs) ≡ first_at (removes_with o p) k cs
+pub first_plainly : (p : Post) (o : Option ℕ) → is_some p.callback ≡ false → (k : ℕ) (cs : List Ending) → min (first_at (names (key_with p None None o)) k cs) (first_at (names (key_with p (Some p.what) None o)) k cs) ≡ first_at (removes_with o p) k cs
 first_plainly p o none k cs = first_either (names (key_with p None None o)) (names (key_with p (Some p.what) None o)) (removes_with o p) (with_what p o none) k cs
 
-pub first_called : (p : Post) (o : Option ℕ) → is_some p.callback ≡ true → (k : ℕ) (cs : List Cause) → min (min (first_at (names (key_with p None None o)) k cs) (first_at (names (key_with p (Some p.what) None o)) k cs)) (first_at (names (key_with p None p.callback o)) k cs) ≡ first_at (removes_with o p) k cs
+pub first_called : (p : Post) (o : Option ℕ) → is_some p.callback ≡ true → (k : ℕ) (cs : List Ending) → min (min (first_at (names (key_with p None None o)) k cs) (first_at (names (key_with p (Some p.what) None o)) k cs)) (first_at (names (key_with p None p.callback o)) k cs) ≡ first_at (removes_with o p) k cs
 first_called p o some k cs =
     let plain = first_either (names (key_with p None None o)) (names (key_with p (Some p.what) None o)) (plainly p o) (λ c. refl) k cs in
     rw plain (first_either (plainly p o) (names (key_with p None p.callback o)) (removes_with o p) (with_callback p o some) k cs)
 
 -- .. and with its object or none
-with_object : (p : Post) (c : Cause) → removes p c ≡ (removes_with None p c || removes_with p.obj p c)
+with_object : (p : Post) (c : Ending) → removes p c ≡ (removes_with None p c || removes_with p.obj p c)
 with_object p (Removal f) = go f.obj
   where
     just : (b : Option ℕ) (z : ℕ) → is_just b z ≡ is_same b (Some z)
@@ -138,24 +138,24 @@ with_object p Everything = refl
 with_object p (SafeQuit now) = refl
 with_object p Nothing = refl
 
-pub first_removal : (p : Post) (k : ℕ) (cs : List Cause) → min (first_at (removes_with None p) k cs) (first_at (removes_with p.obj p) k cs) ≡ first_at (removes p) k cs
+pub first_removal : (p : Post) (k : ℕ) (cs : List Ending) → min (first_at (removes_with None p) k cs) (first_at (removes_with p.obj p) k cs) ≡ first_at (removes p) k cs
 first_removal p k cs = first_either (removes_with None p) (removes_with p.obj p) (removes p) (with_object p) k cs
 
-abbrev one_by : ℕ → Post → Cause → Bool
+abbrev one_by : ℕ → Post → Ending → Bool
 one_by n p c = removes p c || is_dispatch n c
 
-abbrev many_by : Post → Cause → Bool
+abbrev many_by : Post → Ending → Bool
 many_by p c = is_everything c || is_quit_before p.when c
 
-ends_by_either : (n : ℕ) (p : Post) (c : Cause) → ends_post n p c ≡ (one_by n p c || many_by p c)
+ends_by_either : (n : ℕ) (p : Post) (c : Ending) → ends_post n p c ≡ (one_by n p c || many_by p c)
 ends_by_either n p (Removal f) = grind arith
 ends_by_either n p (Dispatch m) = grind arith
 ends_by_either n p Everything = refl
 ends_by_either n p (SafeQuit now) = refl
 ends_by_either n p Nothing = refl
 
--- the earliest of the four firsts is that of the first cause that ends the post
-pub first_of_four : (n : ℕ) (p : Post) (k : ℕ) (cs : List Cause) → min (min (first_at (removes p) k cs) (first_at (is_dispatch n) k cs)) (min (first_at is_everything k cs) (first_at (is_quit_before p.when) k cs)) ≡ first_at (ends_post n p) k cs
+-- the earliest of the four firsts is that of the first ending that ends the post
+pub first_of_four : (n : ℕ) (p : Post) (k : ℕ) (cs : List Ending) → min (min (first_at (removes p) k cs) (first_at (is_dispatch n) k cs)) (min (first_at is_everything k cs) (first_at (is_quit_before p.when) k cs)) ≡ first_at (ends_post n p) k cs
 first_of_four n p k cs =
     let one = first_either (removes p) (is_dispatch n) (one_by n p) (λ c. refl) k cs in
     let many = first_either is_everything (is_quit_before p.when) (many_by p) (λ c. refl) k cs in
@@ -166,7 +166,7 @@ at_seam [] e es = refl
 at_seam (x ∷ front) e es = at_seam front e es
 
 -- the entry at that place is the first that ends the post
-pub first_found : {E : Type 0} (p : Cause → Bool) (f : E → Cause) (test : E → Bool) → ((e : E) → test e ≡ p (f e)) → (front es : List E) → slice_get (front ++ es) (first_at p (length front) (map f es)) ≡ find test es
+pub first_found : {E : Type 0} (p : Ending → Bool) (f : E → Ending) (test : E → Bool) → ((e : E) → test e ≡ p (f e)) → (front es : List E) → slice_get (front ++ es) (first_at p (length front) (map f es)) ≡ find test es
 first_found p f test same front [] = slice_get_past (front ++ []) (length front) (omega (arith, length-append front []))
 first_found {E} p f test same front (e ∷ es) = go (p (f e)) (same e) (first_found p f test same (front ++ e ∷ []) es)
   where

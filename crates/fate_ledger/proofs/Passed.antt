@@ -19,14 +19,14 @@ use Rattle.loop_model.specs.Live.{placed, made_items}
 use Rattle.loop_model.specs.Fates.{fate_of, fate_in, fates}
 use Rattle.loop_model.specs.Posts.{accepted_by}
 use Rattle.loop_model.proofs.FateLaws.{is_message, posted_message, made_message}
-use Rattle.fate_ledger.specs.declared.cause.Cause.TheVariants.{Everything, SafeQuit, Nothing}
-use Rattle.fate_ledger.specs.Causes.{cause_of, cause_of_look}
+use Rattle.fate_ledger.specs.declared.ending.Ending.TheVariants.{Everything, SafeQuit, Nothing}
+use Rattle.fate_ledger.specs.Endings.{ending_of, ending_of_look}
 use Rattle.fate_ledger.specs.Behind.{ends_post, first_at}
-use Rattle.fate_ledger.specs.Ledgers.{posts_of, causes_of, posted_fate, fates_from}
+use Rattle.fate_ledger.specs.Ledgers.{posts_of, endings_of, posted_fate, fates_from}
 use Rattle.fate_ledger.proofs.Firsts.{first_found}
 
 -- an entry ends a post just where what it ends takes the post
-ended_by_look : (n : ℕ) (p : PostData) (r : Reply) → (is_disposed r || dispatches_item r (Message n p)) ≡ ends_post n p (cause_of_look r)
+ended_by_look : (n : ℕ) (p : PostData) (r : Reply) → (is_disposed r || dispatches_item r (Message n p)) ≡ ends_post n p (ending_of_look r)
 ended_by_look n p (Accepted m) = refl
 ended_by_look n p (Refused m) = refl
 ended_by_look n p (Token m) = refl
@@ -41,7 +41,7 @@ ended_by_look n p Disposed = refl
 ended_by_look n p Advanced = refl
 ended_by_look n p Halted = refl
 
-ended_by : (n : ℕ) (p : PostData) (c : Call) (r : Reply) → ends_by c r (Message n p) ≡ ends_post n p (cause_of c r)
+ended_by : (n : ℕ) (p : PostData) (c : Call) (r : Reply) → ends_by c r (Message n p) ≡ ends_post n p (ending_of c r)
 ended_by n p (Post q) r = refl
 ended_by n p (Barrier now) r = refl
 ended_by n p (Unbarrier t) r = never (is_unbarriered r)
@@ -60,9 +60,9 @@ ended_by n p (Next now) r = ended_by_look n p r
 ended_by n p (Advance now) r = refl
 ended_by n p (Halt now) r = refl
 
--- the entry at the place of the first cause is the first that ends the post
-pub found_behind : (n : ℕ) (p : PostData) (front es : List Entry) → slice_get (front ++ es) (first_at (ends_post n p) (length front) (causes_of es)) ≡ find (λ e. ends e (Message n p)) es
-found_behind n p front es = first_found (ends_post n p) (λ (e : Entry). cause_of e.call e.reply) (λ e. ends e (Message n p)) (λ e. ended_by n p e.call e.reply) front es
+-- the entry at the place of the first ending is the first that ends the post
+pub found_behind : (n : ℕ) (p : PostData) (front es : List Entry) → slice_get (front ++ es) (first_at (ends_post n p) (length front) (endings_of es)) ≡ find (λ e. ends e (Message n p)) es
+found_behind n p front es = first_found (ends_post n p) (λ (e : Entry). ending_of e.call e.reply) (λ e. ends e (Message n p)) (λ e. ended_by n p e.call e.reply) front es
 
 -- its fate is that by the entries behind it
 message_fate : (whole es : List Entry) (o : Option PostData) (n k : ℕ) → drop (k + 1) whole ≡ es → map (fate_in whole) (posted_message o n k) ≡ posted_fate n o es
@@ -133,9 +133,9 @@ post_counted es k d p n lt posted number =
     let some = posts_left es k d p n lt posted number in
     omega (arith, at, some, number)
 
--- the causes from a place on
-pub causes_at : (es : List Entry) (k : ℕ) (d : Entry) → k < length es → cause_of (entry_at es k d).call (entry_at es k d).reply ∷ causes_of (drop (k + 1) es) ≡ causes_of (drop k es)
-causes_at es k d lt = ap causes_of (sym (drop_more es k d lt))
+-- the endings from a place on
+pub endings_at : (es : List Entry) (k : ℕ) (d : Entry) → k < length es → ending_of (entry_at es k d).call (entry_at es k d).reply ∷ endings_of (drop (k + 1) es) ≡ endings_of (drop k es)
+endings_at es k d lt = ap endings_of (sym (drop_more es k d lt))
 
 -- the fates from a place on
 fates_at : (es : List Entry) (k : ℕ) (d : Entry) (o : Option PostData) (n m : ℕ) → k < length es → posted_at es k d ≡ o → n + length (option_to_list o) ≡ m → fates_from n (drop k es) ≡ posted_fate n o (drop (k + 1) es) ++ fates_from m (drop (k + 1) es)
@@ -149,12 +149,12 @@ pub none_passed : (es : List Entry) (k : ℕ) (d : Entry) (n : ℕ) → k < leng
 none_passed es k d n lt none = sym (fates_at es k d None n n lt none (omega arith))
 
 pub post_passed : (es : List Entry) (k : ℕ) (d : Entry) (p : PostData) (n : ℕ) (fs : List Fate) (end : ℕ) → k < length es → posted_at es k d ≡ Some p → 1 ≤ n → reverse fs ≡ fates_from n (drop (k + 1) es)
-    → end ≡ first_at (ends_post (n - 1) p) (k + 1) (causes_of (drop (k + 1) es)) → reverse (fs ++ fate_of (slice_get es end) ∷ []) ≡ fates_from (n - 1) (drop k es)
+    → end ≡ first_at (ends_post (n - 1) p) (k + 1) (endings_of (drop (k + 1) es)) → reverse (fs ++ fate_of (slice_get es end) ∷ []) ≡ fates_from (n - 1) (drop k es)
 post_passed es k d p n fs end lt posted some was at =
     let es' = drop (k + 1) es in
     let test = λ (x : Entry). ends x (Message (n - 1) p) in
     let front : length (take (k + 1) es) ≡ k + 1 = length-take-le (k + 1) es (omega (arith, lt)) in
-    let found : slice_get es end ≡ find test es' = subst (λ l. slice_get l end ≡ find test es') (take-append-drop (k + 1) es) (ap (slice_get (take (k + 1) es ++ es')) (at ∙ ap (λ j. first_at (ends_post (n - 1) p) j (causes_of es')) (sym front)) ∙ found_behind (n - 1) p (take (k + 1) es) es') in
+    let found : slice_get es end ≡ find test es' = subst (λ l. slice_get l end ≡ find test es') (take-append-drop (k + 1) es) (ap (slice_get (take (k + 1) es ++ es')) (at ∙ ap (λ j. first_at (ends_post (n - 1) p) j (endings_of es')) (sym front)) ∙ found_behind (n - 1) p (take (k + 1) es) es') in
     let goal = fates_at es k d (Some p) (n - 1) n lt posted (omega (arith, some)) in
     reverse-append fs (fate_of (slice_get es end) ∷ []) ∙ (ap (λ l. fate_of (slice_get es end) ∷ l) was ∙ (ap (λ o. fate_of o ∷ fates_from n es') found ∙ sym goal))
 

@@ -8,8 +8,8 @@ use Rattle.loop_model.specs.Entries.{posts_in, ends}
 use Rattle.loop_model.specs.Fates.{fate_of}
 use Rattle.loop_model.specs.Posts.{accepted_by}
 use Rattle.fate_ledger.specs.declared.ledger.Ledger.{Ledger}
-use Rattle.fate_ledger.specs.declared.cause.Cause.{Cause}
-use Rattle.fate_ledger.specs.Causes.{cause_of}
+use Rattle.fate_ledger.specs.declared.ending.Ending.{Ending}
+use Rattle.fate_ledger.specs.Endings.{ending_of}
 use Rattle.fate_ledger.specs.Quits.{AreQuitsRising}
 use Rattle.fate_ledger.specs.Behind.{Tells}
 
@@ -18,8 +18,8 @@ abbrev pub posts_of : List Entry → ℕ
 posts_of es = sum_by (λ e. posts_in e.call e.reply) es
 
 -- what each entry ends
-abbrev pub causes_of : List Entry → List Cause
-causes_of es = map (λ (e : Entry). cause_of e.call e.reply) es
+abbrev pub endings_of : List Entry → List Ending
+endings_of es = map (λ (e : Entry). ending_of e.call e.reply) es
 
 -- the fate of a post, by the entries behind it
 abbrev pub posted_fate : ℕ → Option PostData → List Entry → List Fate
@@ -33,7 +33,7 @@ fates_from n (e ∷ es) = posted_fate n (accepted_by e.call e.reply) es ++ fates
 
 -- the ledger stands at place k of the history
 pub record StandsAtPlace (es : List Entry) (k : ℕ) (l : Ledger) : Type 0 where
-  pub behind : Tells l.behind k (causes_of (drop k es))
+  pub behind : Tells l.behind k (endings_of (drop k es))
   pub rising : AreQuitsRising l.behind.safe_quits.list.items
   pub number : l.number + posts_of (drop k es) ≡ posts_of es
   pub fates : reverse l.fates.items ≡ fates_from l.number (drop k es)

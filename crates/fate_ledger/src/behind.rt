@@ -3,10 +3,10 @@
 ghost use Rattle.std.specs.Prelude.{◌≡◌, ◌+◌, ℕ, List, [], ◌∷◌, IfOk, OnOk, min};
 ghost use Rattle.fate_ledger.specs.Behind.{Tells, first_at, is_dispatch, ends_post, names, removes, removes_with};
 ghost use Rattle.fate_ledger.specs.Quits.{AreQuitsRising};
-ghost use Rattle.fate_ledger.specs.declared.cause.Cause.{Cause};
+ghost use Rattle.fate_ledger.specs.declared.ending.Ending.{Ending};
 
-use crate::cause::Cause;
 use crate::dispatches::Dispatches;
+use crate::ending::Ending;
 use crate::keys::{RemovalKey, key_of};
 use crate::quits::SafeQuits;
 use loop_model::{NoMemory, Post};
@@ -46,28 +46,28 @@ impl Behind {
     }
 
     /// Goes on to the entry in front, which stands at this place.
-    pub(crate) fn add(&mut self, place: usize, cause: Cause) -> Result<(), NoMemory>
+    pub(crate) fn add(&mut self, place: usize, ending: Ending) -> Result<(), NoMemory>
         requires { AreQuitsRising self.old.safe_quits.list.items }
-        ensures tells { (causes : List Cause) → Tells self.old (place + 1) causes → OnOk result (Tells self.new place (cause ∷ causes)) }
+        ensures tells { (endings : List Ending) → Tells self.old (place + 1) endings → OnOk result (Tells self.new place (ending ∷ endings)) }
         ensures rising { OnOk result (AreQuitsRising self.new.safe_quits.list.items) }
     {
-        match cause {
-            Cause::Removal(filter) => {
+        match ending {
+            Ending::Removal(filter) => {
                 let Ok(_) = self.removals.insert(key_of(&filter), place) else {
                     return Err(NoMemory);
                 };
             }
-            Cause::Dispatch(number) => self.dispatches.add(number, place)?,
-            Cause::Everything => self.everything = place,
-            Cause::SafeQuit(now) => self.safe_quits.add(now, place)?,
-            Cause::Nothing => {}
+            Ending::Dispatch(number) => self.dispatches.add(number, place)?,
+            Ending::Everything => self.everything = place,
+            Ending::SafeQuit(now) => self.safe_quits.add(now, place)?,
+            Ending::Nothing => {}
         }
         Ok(())
     }
 
     /// The place of the first removal that names just this.
     fn removal_of(&self, key: &RemovalKey) -> usize
-        ensures { (place : ℕ) (causes : List Cause) → Tells self.now place causes → result ≡ first_at (names key.now) place causes }
+        ensures { (place : ℕ) (endings : List Ending) → Tells self.now place endings → result ≡ first_at (names key.now) place endings }
     {
         match self.removals.get(key) {
             Some(place) => *place,
@@ -77,7 +77,7 @@ impl Behind {
 
     /// The place of the first removal that takes the post and names just this object, or just no object.
     fn removal_with(&self, post: &Post, obj: Option<u64>) -> usize
-        ensures { (place : ℕ) (causes : List Cause) → Tells self.now place causes → result ≡ first_at (removes_with obj post.now) place causes }
+        ensures { (place : ℕ) (endings : List Ending) → Tells self.now place endings → result ≡ first_at (removes_with obj post.now) place endings }
     {
         let all = RemovalKey {
             handler: post.handler,
@@ -102,7 +102,7 @@ impl Behind {
 
     /// The place of the first removal that takes the post.
     fn removal(&self, post: &Post) -> usize
-        ensures { (place : ℕ) (causes : List Cause) → Tells self.now place causes → result ≡ first_at (removes post.now) place causes }
+        ensures { (place : ℕ) (endings : List Ending) → Tells self.now place endings → result ≡ first_at (removes post.now) place endings }
     {
         let any_object = self.removal_with(post, None);
         if post.obj.is_none() {
@@ -113,7 +113,7 @@ impl Behind {
 
     /// The place of the dispatch of this number.
     fn dispatch(&self, number: u64) -> usize
-        ensures { (place : ℕ) (causes : List Cause) → Tells self.now place causes → result ≡ first_at (is_dispatch number) place causes }
+        ensures { (place : ℕ) (endings : List Ending) → Tells self.now place endings → result ≡ first_at (is_dispatch number) place endings }
     {
         self.dispatches.first(number)
     }
@@ -121,7 +121,7 @@ impl Behind {
     /// The place of the first entry that ends the post of this number, or the end where none does.
     pub(crate) fn first_end(&self, number: u64, post: &Post) -> usize
         requires { AreQuitsRising self.now.safe_quits.list.items }
-        ensures { (place : ℕ) (causes : List Cause) → Tells self.now place causes → result ≡ first_at (ends_post number post.now) place causes }
+        ensures { (place : ℕ) (endings : List Ending) → Tells self.now place endings → result ≡ first_at (ends_post number post.now) place endings }
     {
         let one = earlier(self.removal(post), self.dispatch(number));
         let many = earlier(

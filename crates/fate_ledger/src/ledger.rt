@@ -6,7 +6,7 @@ ghost use Rattle.loop_model.specs.Posts.{accepted_by};
 ghost use Rattle.fate_ledger.specs.Ledgers.{StandsAtPlace, fates_from, posts_of};
 
 use crate::behind::Behind;
-use crate::cause::cause_of;
+use crate::ending::ending_of;
 use loop_model::{Call, Entry, Fate, NoMemory, Post};
 use std::alloc::Global;
 
@@ -42,7 +42,7 @@ impl Ledger {
         ensures { OnOk result (StandsAtPlace entries.now place self.new) }
     {
         self.post(entries, place)?;
-        self.behind.add(place, cause_of(&entries[place]))
+        self.behind.add(place, ending_of(&entries[place]))
     }
 
     /// Adds the fate of the message that the entry at this place posts, where it posts one.

@@ -2,9 +2,9 @@
 #![tactic(auto)]
 
 mod behind;
-mod cause;
 mod counted;
 mod dispatches;
+mod ending;
 mod history;
 mod keys;
 mod ledger;

@@ -13,16 +13,18 @@ use Rattle.choreographer.specs.Done.{UnlessNoMemory}
 use Rattle.handler_post.specs.Ways.{PlainWay as Way}
 use Rattle.handler_post.specs.Ways.{IsReady}
 use Rattle.looper_run.specs.declared.own.Own.{Own}
-use Rattle.looper_run.specs.Holding.{Sender, Holding, Workplace, workplace, held}
+use Rattle.looper_run.specs.Holding.{Sender, Holding, Workplace, workplace, held, IsSameOwn}
 use Rattle.looper_run.specs.declared.dispatcher.Did.{Did}
 use Rattle.looper_run.specs.declared.dispatcher.Did.TheVariants.{Yes, No, NoMemory as Lost}
 use Rattle.looper_run.specs.Tests.{IsLent, IsSameLooper, Unless}
-use Rattle.looper_run.proofs.Working.{lent_self}
+use Rattle.looper_run.proofs.Rings.{no_rings, rings_then}
+use Rattle.looper_run.proofs.Working.{lent_self, lent_then}
 use Rattle.plain_loop.specs.Lines.{KeepsLine}
+use Rattle.frame_loop.specs.declared.dispatching.FrameHandling.{FrameHandling}
 use Rattle.frame_loop.specs.declared.screen.Screen.{Screen}
 use Rattle.frame_loop.specs.Screens.{KeepsScreen}
 use Rattle.frame_loop.specs.Paintings.{PaintingOrigin, ServesPainting, lending}
-use Rattle.frame_loop.specs.Dispatching.{ServesFrames, KeepsOwn, FoundMemory}
+use Rattle.frame_loop.specs.Dispatching.{ServesFrames, KeepsServing, KeepsOwn, KeepsHandlers, KeepsBell, KeepsRings, FoundMemory}
 
 -- a way keeps itself
 pub keeps_self : {E : Type 0} (v : Way E) → IsReady v → KeepsLine v v
@@ -44,6 +46,38 @@ keeps_then u v w a b = record {
 pub own_self : {E P : Type 0} (o : Own E P) → KeepsOwn o o
 own_self o = record { same = record { poster = refl; pass = refl; journal = refl }; lent = lent_self (held o); rung = refl }
 
+module _ {R C E H P : Type 0} where
+  -- what keeps the handlers rang no bell
+  pub handlers_bell : (a b : FrameHandling R C E H) (o p : Own E P) → KeepsHandlers a b → KeepsOwn o p → KeepsBell a b o p
+  handlers_bell a b o p k own = record { serves = k.serves; own = own; nudged = k.nudged }
+
+  -- a handler's call that went on as the calls of a dispatcher may
+  pub lent_bell : (a b : FrameHandling R C E H) (o p : Own E P) → KeepsServing a b → IsSameOwn o p → IsLent (held o) (held p) × (p.poster.now.view.rung ≡ o.poster.now.view.rung) → b.nudged ≡ a.nudged
+      → KeepsBell a b o p
+  lent_bell a b o p serves same kept nudged = record { serves = serves; own = record { same = same; lent = kept.0; rung = kept.1 }; nudged = nudged }
+
+  -- what rang no bell counted its rings
+  pub bell_rings : (a b : FrameHandling R C E H) (o p : Own E P) → KeepsBell a b o p → KeepsRings a b o p
+  bell_rings a b o p k = record {
+    serves = k.serves;
+    origin = refl;
+    nudges = no_rings o.poster.now p.poster.now a.nudged b.nudged k.own.rung k.nudged;
+    asked = refl;
+    own = k.own.same;
+    lent = k.own.lent;
+  }
+
+  -- two calls that count their rings
+  pub rings_both : (a b c : FrameHandling R C E H) (o p q : Own E P) → KeepsRings a b o p → KeepsRings b c p q → KeepsRings a c o q
+  rings_both a b c o p q k l = record {
+    serves = λ w s. l.serves w (k.serves w s);
+    origin = refl;
+    nudges = rings_then o.poster.now p.poster.now q.poster.now a.nudged b.nudged c.nudged k.nudges l.nudges;
+    asked = refl;
+    own = record { poster = l.own.poster ∙ k.own.poster; pass = l.own.pass ∙ k.own.pass; journal = l.own.journal ∙ k.own.journal };
+    lent = lent_then (held o) (held p) (held q) k.lent l.lent;
+  }
+
 -- the place of a looper that goes on as a dispatcher's calls may
 pub place_after : (a b : Holding) → IsSameLooper a b → workplace b ≡ workplace a
 place_after a b same = λ i. record { table = same.table i; constants = same.constants i; pool = same.home i }
@@ -62,12 +96,14 @@ module _ (queue : Shared TableId) (pool : TableId) (c : SharedFrames) (frames as
       → ServesFrames queue pool c frames asks w → ServesFrames queue pool c frames' asks' w
   serves_framed frames' asks' w table number constants asking serves = record {
     place = serves.place;
-    framing = (table ∙ serves.framing.0, constants ∙ serves.framing.1);
-    asking = asking;
-    last = ap (λ (n : ℕ). n + 1) number ∙ serves.last;
-    phases = serves.phases;
-    seals = serves.seals;
-    pulses = serves.pulses;
+    has = record {
+      framing = (table ∙ serves.has.framing.0, constants ∙ serves.has.framing.1);
+      asking = asking;
+      last = ap (λ (n : ℕ). n + 1) number ∙ serves.has.last;
+      phases = serves.has.phases;
+      seals = serves.has.seals;
+      pulses = serves.has.pulses;
+    };
   }
 
   -- as a frame opens its client serves
@@ -78,8 +114,8 @@ module _ (queue : Shared TableId) (pool : TableId) (c : SharedFrames) (frames as
     of_pool = serves.place.pass ∙ sym op;
     home = ap (λ (q : Shared TableId). q.constants.home) oq ∙ (serves.place.home ∙ sym op);
     of_frames = sym oc;
-    asking = serves.asking;
-    phases = serves.phases;
+    asking = serves.has.asking;
+    phases = serves.has.phases;
     lent = λ k. subst (λ (p : Sender). IsLent (lending p o.pass k) (lending poster pass k)) (sym began)
         (subst (λ (a : Tally). IsLent (lending poster a k) (lending poster pass k)) (sym pass_began) (lent_self (lending poster pass k)));
     rung = ap (λ (p : Sender). p.view.rung) (sym began);
@@ -94,6 +130,10 @@ closes o' poster poster' pass pass' asks c j began pass_began s = (
 )
 
 module _ {R C E : Type 0} where
+  -- a call that kept its screen leaves a pass of the same choreographer
+  pub asked_still : (s t : Screen R C E) → KeepsScreen s t → IsPassOf t.asks.now s.choreographer.now
+  asked_still s t k = subst (λ (q : SharedFrames). IsPassOf t.asks.now q) k.same.choreographer k.screen.asks
+
   -- a callback that kept its screen leaves a client that serves what it served
   pub paints : (o : PaintingOrigin) (s t : Screen R C E) (q : SharedFrames) → KeepsScreen s t → o.queue ≡ s.queue.now → o.pool ≡ s.pool.now → o.choreographer ≡ s.choreographer.now
       → ServesPainting o s.poster.now s.pass.now s.asks.now q → ServesPainting o t.poster.now t.pass.now t.asks.now q

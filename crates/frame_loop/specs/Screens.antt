@@ -45,13 +45,15 @@ pub record KeepsScreen {R C E : Type 0} (before after : Screen R C E) : Type 0 w
   pub screen : IsScreen after
   pub same : IsSameScreen before after
 
--- nothing was sent by the line
-abbrev pub KeepsWay : {R C E : Type 0} → Screen R C E → Screen R C E → Type 0
-KeepsWay before after = (after.poster.now ≡ before.poster.now) × (after.pass.now ≡ before.pass.now)
+-- what a call at the choreographer keeps beside: nothing was sent by the line
+pub record KeepsWay {R C E : Type 0} (before after : Screen R C E) : Type 0 where
+  pub screen : KeepsScreen before after
+  pub way : (after.poster.now ≡ before.poster.now) × (after.pass.now ≡ before.pass.now)
 
--- no callback was posted or removed
-abbrev pub KeepsCallbacks : {R C E : Type 0} → Screen R C E → Screen R C E → Type 0
-KeepsCallbacks before after = (after.asks.now ≡ before.asks.now) × (after.outbox.now ≡ before.outbox.now)
+-- what a call on the line keeps beside: no callback was posted or removed
+pub record KeepsCallbacks {R C E : Type 0} (before after : Screen R C E) : Type 0 where
+  pub screen : KeepsScreen before after
+  pub callbacks : (after.asks.now ≡ before.asks.now) × (after.outbox.now ≡ before.outbox.now)
 
 -- a callback was posted at the choreographer, at a moment of the clock
 abbrev pub PostsCallback : {R C E : Type 0} → (C → ℕ → Bool) → Screen R C E → Screen R C E → ℕ → ℕ → Option ℕ → ℕ → Placed → Type 0

@@ -1,13 +1,13 @@
 //! Loopers with frames, alone and beside other work.
-ghost use Rattle.std.specs.Prelude.{◌≡◌, ◌<◌, false, length, IfOk};
-ghost use Rattle.plain_loop.specs.Senders.{IsSender, AreSenders, IsOneFewer, IsQueueLooper};
+ghost use Rattle.std.specs.Prelude.{◌≡◌, ◌<◌, false, length, IfOk, IfSome};
+ghost use Rattle.plain_loop.specs.Senders.{IsSender, AreSenders, IsQueueLooper};
 
 use crate::handlers::FrameHandle;
 use crate::looping::run_frame_looper;
 use loop_io::Clock;
 use loop_model::NoMemory;
 use looper_run::Looper;
-use plain_loop::{Mailbox, Opened, Sender, Senders, Settings, open, open_with};
+use plain_loop::{Mailbox, Opened, Sender, Senders, Settings, open, open_with, work_and_quit};
 use queue_state::Unkept;
 use std::alloc::AllocGlobal;
 use std::sync::Wait;
@@ -69,19 +69,20 @@ pub fn run_frames_here<
     run_frame_looper(&mailbox, &mut looper, settings.period, handlers)
 }
 
-// Does the work, and then quits the queue safely by this sender.
-fn work_and_quit<R: Wait, C: Clock, T, W: FnOnce(&Mailbox<R, C>, Senders) -> T>(
+// Does the work, and then quits the queue safely by this sender, where one is named.
+fn work_through<R: Wait, C: Clock, T, W: FnOnce(&Mailbox<R, C>, Senders) -> T>(
     mailbox: &Mailbox<R, C>,
     senders: Senders,
-    mut last: Sender,
+    last: Option<Sender>,
     work: W,
 ) -> T
-    requires last { IsSender mailbox.now.queue.now mailbox.now.pool.now last }
+    requires last { IfSome last (IsSender mailbox.now.queue.now mailbox.now.pool.now) }
     requires work { W.pre work mailbox senders }
 {
-    let answer = work(mailbox, senders);
-    last.line(mailbox).quit_safely();
-    answer
+    match last {
+        Some(last) => work_and_quit(mailbox, senders, last, work),
+        None => work(mailbox, senders),
+    }
 }
 
 // Does the work beside the looper.
@@ -94,23 +95,23 @@ fn side_by_side<
 >(
     mailbox: &Mailbox<R, C>,
     mut looper: Looper<Unkept>,
-    mut senders: Senders,
+    senders: Senders,
+    last: Option<Sender>,
     period: u64,
     handlers: H,
     work: W,
 ) -> Result<(T, H), NoMemory>
     requires looper { IsQueueLooper mailbox.now.queue.now mailbox.now.pool.now looper }
     requires free { mailbox.now.queue.now.constants.setting.lockstep ≡ false }
+    requires last { IfSome last (IsSender mailbox.now.queue.now mailbox.now.pool.now) }
     requires period { 0 < period }
-    requires senders { AreSenders mailbox.now.queue.now mailbox.now.pool.now senders × (0 < length senders.posters.items) }
-    requires work { (s : _) → AreSenders mailbox.now.queue.now mailbox.now.pool.now s × IsOneFewer s senders → W.pre work mailbox s }
+    requires work { W.pre work mailbox senders }
     requires holds { H.Holds handlers }
     ensures holds { IfOk result (λ r. H.Holds r.1) }
 {
-    let last = senders.next(mailbox);
     let (answer, handlers) = join(
         mailbox.rt,
-        || work_and_quit(mailbox, senders, last, work),
+        || work_through(mailbox, senders, last, work),
         || run_frame_looper(mailbox, &mut looper, period, handlers),
     );
     Ok((answer, handlers?))
@@ -137,7 +138,7 @@ pub fn run_frames_beside<
         queue,
         pool,
         looper,
-        senders,
+        mut senders,
         sources,
     } = open_with(
         alloc,
@@ -152,47 +153,16 @@ pub fn run_frames_beside<
         pool: &pool,
         sources: &sources,
     };
-    side_by_side(&mailbox, looper, senders, settings.period, handlers, work)
-}
-
-fn do_work<R: Wait, C: Clock, T, W: FnOnce(&Mailbox<R, C>, Senders) -> T>(
-    mailbox: &Mailbox<R, C>,
-    senders: Senders,
-    work: W,
-) -> T
-    requires { W.pre work mailbox senders }
-{
-    work(mailbox, senders)
-}
-
-// Does the work beside the looper, which a handler or a sender quits.
-fn all_beside<
-    R: Threads + Wait + time::Clock + Sync,
-    C: Clock + Sync,
-    H: FrameHandle<R, C, Unkept> + Send + Drop,
-    T: Send + Drop,
-    W: FnOnce(&Mailbox<R, C>, Senders) -> T + Send + Drop,
->(
-    mailbox: &Mailbox<R, C>,
-    mut looper: Looper<Unkept>,
-    senders: Senders,
-    period: u64,
-    handlers: H,
-    work: W,
-) -> Result<(T, H), NoMemory>
-    requires looper { IsQueueLooper mailbox.now.queue.now mailbox.now.pool.now looper }
-    requires free { mailbox.now.queue.now.constants.setting.lockstep ≡ false }
-    requires period { 0 < period }
-    requires work { W.pre work mailbox senders }
-    requires holds { H.Holds handlers }
-    ensures holds { IfOk result (λ r. H.Holds r.1) }
-{
-    let (answer, handlers) = join(
-        mailbox.rt,
-        || do_work(mailbox, senders, work),
-        || run_frame_looper(mailbox, &mut looper, period, handlers),
-    );
-    Ok((answer, handlers?))
+    let last = senders.next(&mailbox);
+    side_by_side(
+        &mailbox,
+        looper,
+        senders,
+        Some(last),
+        settings.period,
+        handlers,
+        work,
+    )
 }
 
 /// Runs a looper with a choreographer in a thread of its own, as `run_frame_looper`, and beside it this work, which is handed the
@@ -227,5 +197,13 @@ pub fn run_frames_with<
         pool: &pool,
         sources: &sources,
     };
-    all_beside(&mailbox, looper, senders, settings.period, handlers, work)
+    side_by_side(
+        &mailbox,
+        looper,
+        senders,
+        None,
+        settings.period,
+        handlers,
+        work,
+    )
 }

@@ -1,19 +1,16 @@
 //! The dispatcher of a looper with frames.
-ghost use Rattle.std.specs.Prelude.{◌≡◌, ◌+◌, [], IsTrue, true, None, OnOk};
-ghost use Rattle.message_slot.specs.Letter.{number_in, post_of};
+ghost use Rattle.std.specs.Prelude.{◌≡◌, [], IsTrue, true, None, OnOk};
 ghost use Rattle.choreographer.specs.Known.{IsPassOf};
 ghost use Rattle.handler_post.specs.Ways.{IsReady};
-ghost use Rattle.looper_run.specs.Holding.{workplace, held, IsSameOwn};
-ghost use Rattle.looper_run.specs.Tests.{IsLent, Rings};
-ghost use Rattle.plain_loop.specs.Handling.{HasJustTaken};
+ghost use Rattle.looper_run.specs.Holding.{workplace, held};
 ghost use Rattle.plain_loop.specs.Lines.{KeepsLine, way_of};
-ghost use Rattle.frame_loop.specs.Dispatching.{FoundMemory, Serving, KeepsServing, KeepsOwn};
+ghost use Rattle.frame_loop.specs.Dispatching.{FoundMemory, HasFrames, Serving, MayServe, MayServeTaken, KeepsOwn, KeepsHandlers, KeepsBell, KeepsRings};
 ghost use Rattle.frame_loop.specs.FrameLooping.{AsksPulse, DropsFrames};
 
 use crate::handlers::FrameHandle;
 use crate::outbox::FrameOutbox;
 use crate::painting::Painting;
-use crate::screen::{PHASES, Screen};
+use crate::screen::{PHASES, Screen, lent_screen};
 use choreographer::{
     Choreographer, DUE_MESSAGE, FRAME_MESSAGE, FramePass, Framed, NANOS_PER_MILLI,
 };
@@ -23,7 +20,7 @@ use loop_model::NoMemory;
 use looper_run::{Did, Dispatcher, Own};
 use message_pool::PoolClaim;
 use message_slot::Message;
-use plain_loop::{Handled, Line, Mailbox, did};
+use plain_loop::{Handled, Line, Mailbox, did, lent_line};
 use queue_state::Recorder;
 use std::snapshot::Snapshot;
 use std::sync::Wait;
@@ -89,9 +86,7 @@ impl<'a, R: Wait, C: Clock, E: Recorder, H: FrameHandle<R, C, E>> FrameHandling<
     pub(crate) fn next_pulse(&mut self) -> Option<u64>
         requires { IsPassOf self.old.frames self.old.choreographer.now }
         ensures asks { AsksPulse self.old.frames self.new.frames result }
-        ensures serves { KeepsServing self.old self.new }
-        ensures handlers { self.new.handlers ≡ self.old.handlers }
-        ensures nudged { self.new.nudged ≡ self.old.nudged }
+        ensures keeps { KeepsHandlers self.old self.new }
     {
         self.awaited = self.choreographer.asked(self.mailbox.rt, &mut self.frames);
         let pulse = self.awaited?;
@@ -100,13 +95,9 @@ impl<'a, R: Wait, C: Clock, E: Recorder, H: FrameHandle<R, C, E>> FrameHandling<
 
     /// Drops the part of the choreographer's record that was not dropped before. At NoMemory it stays.
     pub(crate) fn let_frames_go(&mut self) -> Handled
-        requires frames { IsPassOf self.old.frames self.old.choreographer.now }
-        requires last { self.old.frames.number + 1 ≡ self.old.choreographer.now.constants.passes }
-        requires seals { self.old.choreographer.now.constants.seals ≡ true }
+        requires { HasFrames self.old.choreographer.now self.old.frames self.old.asks }
         ensures drops { OnOk result (DropsFrames self.old.frames self.new.frames) }
-        ensures serves { KeepsServing self.old self.new }
-        ensures handlers { self.new.handlers ≡ self.old.handlers }
-        ensures nudged { self.new.nudged ≡ self.old.nudged }
+        ensures keeps { KeepsHandlers self.old self.new }
     {
         drop(self.choreographer.seal(self.mailbox.rt, &mut self.frames)?);
         Ok(())
@@ -115,33 +106,20 @@ impl<'a, R: Wait, C: Clock, E: Recorder, H: FrameHandle<R, C, E>> FrameHandling<
     // Delivers the pulse that is asked for, if it came, and sends what the choreographer is to send.
     fn deliver_pulse(&mut self, own: &mut Own<E>) -> Handled
         requires serves { Serving self.old (workplace (held own.old)) }
-        ensures serves { KeepsServing self.old self.new }
+        ensures keeps { KeepsHandlers self.old self.new }
         ensures own { KeepsOwn own.old own.new }
-        ensures handlers { self.new.handlers ≡ self.old.handlers }
-        ensures nudged { self.new.nudged ≡ self.old.nudged }
     {
         self.choreographer
             .on_vsync(self.mailbox.rt, &mut self.frames, &mut self.outbox);
-        let mut line = Line {
-            rt: self.mailbox.rt,
-            alloc: self.mailbox.alloc,
-            clock: self.mailbox.clock,
-            queue: self.mailbox.queue,
-            poster: own.poster,
-            pool: self.mailbox.pool,
-            pass: own.pass,
-        };
+        let mut line = lent_line!(self.mailbox, own);
         flush(&mut line, &mut self.outbox)
     }
 
     // Begins a frame where one is scheduled, and runs its callbacks.
     fn do_frame(&mut self, own: &mut Own<E>) -> Handled
-        requires serves { Serving self.old (workplace (held own.old)) }
-        requires holds { H.Holds self.old.handlers }
-        ensures serves { KeepsServing self.old self.new }
-        ensures own { KeepsOwn own.old own.new }
+        requires { MayServe H.Holds self.old (workplace (held own.old)) }
+        ensures keeps { KeepsBell self.old self.new own.old own.new }
         ensures holds { OnOk result (H.Holds self.new.handlers) }
-        ensures nudged { self.new.nudged ≡ self.old.nudged }
     {
         let began = Snapshot::of(&*own.poster);
         let pass_began = Snapshot::of(&*own.pass);
@@ -170,11 +148,8 @@ impl<'a, R: Wait, C: Clock, E: Recorder, H: FrameHandle<R, C, E>> FrameHandling<
 
     // Schedules a frame where the phase has a due callback and none is scheduled.
     fn on_due(&mut self, phase: u32)
-        requires frames { IsPassOf self.old.frames self.old.choreographer.now }
-        requires phases { self.old.choreographer.now.constants.phases ≡ 5 }
-        ensures serves { KeepsServing self.old self.new }
-        ensures handlers { self.new.handlers ≡ self.old.handlers }
-        ensures nudged { self.new.nudged ≡ self.old.nudged }
+        requires { HasFrames self.old.choreographer.now self.old.frames self.old.asks }
+        ensures keeps { KeepsHandlers self.old self.new }
     {
         if phase < PHASES {
             self.choreographer
@@ -184,12 +159,9 @@ impl<'a, R: Wait, C: Clock, E: Recorder, H: FrameHandle<R, C, E>> FrameHandling<
 
     // A message of the choreographer.
     fn on_frames(&mut self, own: &mut Own<E>, what: u32, arg: u32) -> Handled
-        requires serves { Serving self.old (workplace (held own.old)) }
-        requires holds { H.Holds self.old.handlers }
-        ensures serves { KeepsServing self.old self.new }
-        ensures own { KeepsOwn own.old own.new }
+        requires { MayServe H.Holds self.old (workplace (held own.old)) }
+        ensures keeps { KeepsBell self.old self.new own.old own.new }
         ensures holds { OnOk result (H.Holds self.new.handlers) }
-        ensures nudged { self.new.nudged ≡ self.old.nudged }
     {
         match what {
             FRAME_MESSAGE => self.do_frame(own),
@@ -203,26 +175,17 @@ impl<'a, R: Wait, C: Clock, E: Recorder, H: FrameHandle<R, C, E>> FrameHandling<
 
     // A message of a handler.
     fn on_message(&mut self, own: &mut Own<E>, m: &Message<PoolClaim>, now: u64) -> Handled
-        requires serves { Serving self.old (workplace (held own.old)) }
-        requires taken { HasJustTaken own.old.poster.now (number_in m.now.item) (post_of m.now.item) now }
-        requires holds { H.Holds self.old.handlers }
-        ensures serves { KeepsServing self.old self.new }
-        ensures own { KeepsOwn own.old own.new }
+        requires { MayServeTaken H.Holds self.old own.old m.now now }
+        ensures keeps { KeepsBell self.old self.new own.old own.new }
         ensures holds { OnOk result (H.Holds self.new.handlers) }
-        ensures nudged { self.new.nudged ≡ self.old.nudged }
     {
-        let mut screen = Screen {
-            rt: self.mailbox.rt,
-            alloc: self.mailbox.alloc,
-            clock: self.mailbox.clock,
-            queue: self.mailbox.queue,
-            poster: own.poster,
-            pool: self.mailbox.pool,
-            pass: own.pass,
-            choreographer: self.choreographer,
-            asks: &mut self.asks,
-            outbox: &mut self.outbox,
-        };
+        let mut screen = lent_screen!(
+            self.mailbox,
+            own,
+            self.choreographer,
+            &mut self.asks,
+            &mut self.outbox
+        );
         match m.callback() {
             Some(id) => self.handlers.run_callback(&mut screen, id, now),
             None => self.handlers.handle(&mut screen, m, now),
@@ -230,13 +193,9 @@ impl<'a, R: Wait, C: Clock, E: Recorder, H: FrameHandle<R, C, E>> FrameHandling<
     }
 
     fn dispatch(&mut self, own: &mut Own<E>, m: &Message<PoolClaim>, now: u64) -> Handled
-        requires serves { Serving self.old (workplace (held own.old)) }
-        requires taken { HasJustTaken own.old.poster.now (number_in m.now.item) (post_of m.now.item) now }
-        requires holds { H.Holds self.old.handlers }
-        ensures serves { KeepsServing self.old self.new }
-        ensures own { KeepsOwn own.old own.new }
+        requires { MayServeTaken H.Holds self.old own.old m.now now }
+        ensures keeps { KeepsBell self.old self.new own.old own.new }
         ensures holds { OnOk result (H.Holds self.new.handlers) }
-        ensures nudged { self.new.nudged ≡ self.old.nudged }
     {
         if m.handler() == Some(FRAMES.id) {
             return self.on_frames(own, m.what(), m.arg());
@@ -247,10 +206,7 @@ impl<'a, R: Wait, C: Clock, E: Recorder, H: FrameHandle<R, C, E>> FrameHandling<
     // Rings the looper's bell where another pulse is asked for than it waits for.
     fn ring(&mut self, own: &mut Own<E>)
         requires serves { Serving self.old (workplace (held own.old)) }
-        ensures serves { KeepsServing self.old self.new }
-        ensures same { IsSameOwn own.old own.new }
-        ensures lent { IsLent (held own.old) (held own.new) }
-        ensures rings { Rings own.old.poster.now own.new.poster.now self.old.nudged self.new.nudged }
+        ensures keeps { KeepsRings self.old self.new own.old own.new }
         ensures handlers { self.new.handlers ≡ self.old.handlers }
     {
         let asked = self.choreographer.asked(self.mailbox.rt, &mut self.frames);
@@ -263,13 +219,8 @@ impl<'a, R: Wait, C: Clock, E: Recorder, H: FrameHandle<R, C, E>> FrameHandling<
 
     // Dispatches a message, delivers the pulse that came meanwhile, and rings the bell where another is asked for.
     fn deliver(&mut self, own: &mut Own<E>, m: &Message<PoolClaim>, now: u64) -> Handled
-        requires serves { Serving self.old (workplace (held own.old)) }
-        requires taken { HasJustTaken own.old.poster.now (number_in m.now.item) (post_of m.now.item) now }
-        requires holds { H.Holds self.old.handlers }
-        ensures serves { KeepsServing self.old self.new }
-        ensures same { IsSameOwn own.old own.new }
-        ensures lent { IsLent (held own.old) (held own.new) }
-        ensures rings { Rings own.old.poster.now own.new.poster.now self.old.nudged self.new.nudged }
+        requires { MayServeTaken H.Holds self.old own.old m.now now }
+        ensures keeps { KeepsRings self.old self.new own.old own.new }
         ensures holds { OnOk result (H.Holds self.new.handlers) }
     {
         self.dispatch(own, m, now)?;

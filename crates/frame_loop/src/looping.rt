@@ -1,6 +1,6 @@
 //! The loop of a looper with frames.
-ghost use Rattle.std.specs.Prelude.{◌≡◌, ◌+◌, ◌<◌, true, false, None, OnOk, IfOk};
-ghost use Rattle.choreographer.specs.Known.{IsPassOf};
+ghost use Rattle.std.specs.Prelude.{◌≡◌, ◌<◌, true, false, OnOk, IfOk};
+ghost use Rattle.frame_loop.specs.Dispatching.{HasFrames};
 ghost use Rattle.frame_loop.specs.FrameLooping.{FramesToItsEnd};
 ghost use Rattle.plain_loop.specs.Senders.{IsQueueLooper};
 
@@ -23,9 +23,7 @@ fn open_frames(
     period: u64,
 ) -> Result<(Choreographer, FramePass, FramePass), NoMemory>
     requires { 0 < period }
-    ensures passes { IfOk result (λ r. IsPassOf r.1 r.0 × IsPassOf r.2 r.0) }
-    ensures last { IfOk result (λ r. r.1.number + 1 ≡ r.0.constants.passes) }
-    ensures constants { IfOk result (λ r. (r.0.constants.phases ≡ 5) × (r.0.constants.seals ≡ true) × (r.0.constants.pulses ≡ None)) }
+    ensures { IfOk result (λ r. HasFrames r.0 r.1 r.2) }
 {
     let (choreographer, mut passes) = Choreographer::make_sealing(alloc, 0, period, PHASES, 2)?;
     let frames = passes.pop().unwrap();

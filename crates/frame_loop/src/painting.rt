@@ -4,7 +4,7 @@ ghost use Rattle.frame_loop.specs.Paintings.{PaintingOrigin, painting_origin, Se
 
 use crate::handlers::FrameHandle;
 use crate::outbox::FrameOutbox;
-use crate::screen::Screen;
+use crate::screen::{Screen, lent_screen};
 use choreographer::{Choreographer, ClientRan, FrameClient, FramePass};
 use frame_phases::Callback;
 use loop_io::Clock;
@@ -53,18 +53,7 @@ impl<'a, 'b, R: Wait, C: Clock, E: Recorder, H: FrameHandle<R, C, E>> FrameClien
         callback: &Callback,
         time: u64,
     ) -> ClientRan {
-        let mut screen = Screen {
-            rt: self.rt,
-            alloc: self.alloc,
-            clock: self.clock,
-            queue: self.queue,
-            poster: self.poster,
-            pool: self.pool,
-            pass: self.pass,
-            choreographer: self.choreographer,
-            asks: self.asks,
-            outbox: host,
-        };
+        let mut screen = lent_screen!(self, self, self.choreographer, self.asks, host);
         match self.handlers.draw(&mut screen, callback, time) {
             Ok(()) => ClientRan::Done,
             Err(_) => ClientRan::NoMemory,

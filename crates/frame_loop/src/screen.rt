@@ -1,7 +1,7 @@
 //! What the code of a looper with frames is lent, and its frame callbacks.
 ghost use Rattle.std.specs.Prelude.{◌≡◌, ◌<◌, None};
 ghost use Rattle.choreographer.specs.Calls.{RemovedBy};
-ghost use Rattle.frame_loop.specs.Screens.{IsScreen, KeepsScreen, KeepsWay, PostsCallback, phase_number};
+ghost use Rattle.frame_loop.specs.Screens.{IsScreen, KeepsWay, PostsCallback, phase_number};
 
 use crate::outbox::FrameOutbox;
 use choreographer::{Choreographer, FramePass, Placed};
@@ -72,12 +72,31 @@ pub struct Screen<'a, 'b, R: Wait, C: Clock, E: Recorder = Unkept> {
     pub outbox: &'a mut FrameOutbox<'b, C>,
 }
 
+// The screen of a mailbox, or of what else has its fields, by the poster and the pass of what is lent.
+macro_rules! lent_screen {
+    ($of:expr, $lent:expr, $choreographer:expr, $asks:expr, $outbox:expr) => {
+        Screen {
+            rt: $of.rt,
+            alloc: $of.alloc,
+            clock: $of.clock,
+            queue: $of.queue,
+            poster: $lent.poster,
+            pool: $of.pool,
+            pass: $lent.pass,
+            choreographer: $choreographer,
+            asks: $asks,
+            outbox: $outbox,
+        }
+    };
+}
+
+pub(crate) use lent_screen;
+
 impl<'a, 'b, R: Wait, C: Clock, E: Recorder> Screen<'a, 'b, R, C, E> {
     /// Posts a callback of the animation phase for the next frame (`Choreographer.postFrameCallback`).
     pub fn post_frame_callback(&mut self, id: u64) -> Placed
         requires { IsScreen self.old }
-        ensures keeps { KeepsScreen self.old self.new }
-        ensures way { KeepsWay self.old self.new }
+        ensures keeps { KeepsWay self.old self.new }
         ensures posted { PostsCallback C.shows self.old self.new 1 id None 0 result }
     {
         self.post_callback(Phase::Animation, id, None, 0)
@@ -86,8 +105,7 @@ impl<'a, 'b, R: Wait, C: Clock, E: Recorder> Screen<'a, 'b, R, C, E> {
     /// Posts a callback of the animation phase for the first frame behind this delay (`Choreographer.postFrameCallbackDelayed`).
     pub fn post_frame_callback_delayed(&mut self, id: u64, delay: u64) -> Placed
         requires { IsScreen self.old }
-        ensures keeps { KeepsScreen self.old self.new }
-        ensures way { KeepsWay self.old self.new }
+        ensures keeps { KeepsWay self.old self.new }
         ensures posted { PostsCallback C.shows self.old self.new 1 id None delay result }
     {
         self.post_callback(Phase::Animation, id, None, delay)
@@ -97,8 +115,7 @@ impl<'a, 'b, R: Wait, C: Clock, E: Recorder> Screen<'a, 'b, R, C, E> {
     /// (`Choreographer.removeFrameCallback`). At NoMemory all stay.
     pub fn remove_frame_callback(&mut self, id: u64) -> Result<u64, NoMemory>
         requires { IsScreen self.old }
-        ensures keeps { KeepsScreen self.old self.new }
-        ensures way { KeepsWay self.old self.new }
+        ensures keeps { KeepsWay self.old self.new }
         ensures removed { RemovedBy self.old.asks.now self.new.asks.now 1 id None result }
     {
         self.remove_callbacks(Phase::Animation, id, None)
@@ -108,8 +125,7 @@ impl<'a, 'b, R: Wait, C: Clock, E: Recorder> Screen<'a, 'b, R, C, E> {
     /// (`Choreographer.postCallbackDelayed`). Its answer is that of `Choreographer::post_callback`, but Refused, which never comes.
     pub fn post_callback(&mut self, phase: Phase, id: u64, token: Option<u64>, delay: u64) -> Placed
         requires { IsScreen self.old }
-        ensures keeps { KeepsScreen self.old self.new }
-        ensures way { KeepsWay self.old self.new }
+        ensures keeps { KeepsWay self.old self.new }
         ensures posted { PostsCallback C.shows self.old self.new (phase_number phase) id token delay result }
     {
         let number = phase.number();
@@ -126,8 +142,7 @@ impl<'a, 'b, R: Wait, C: Clock, E: Recorder> Screen<'a, 'b, R, C, E> {
         token: Option<u64>,
     ) -> Result<u64, NoMemory>
         requires { IsScreen self.old }
-        ensures keeps { KeepsScreen self.old self.new }
-        ensures way { KeepsWay self.old self.new }
+        ensures keeps { KeepsWay self.old self.new }
         ensures removed { RemovedBy self.old.asks.now self.new.asks.now (phase_number phase) id token result }
     {
         let number = phase.number();

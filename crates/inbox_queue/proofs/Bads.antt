@@ -6,7 +6,7 @@ use Rattle.std.proofs.lemmas.Bool.{lt-ltb, false_from_ne_true, ltb-true}
 use Rattle.std.proofs.lemmas.List.{append-nil, take_more, take_all, take-append-drop, length-take, map-append, length-map}
 use Rattle.std.proofs.lemmas.List.Folds.{length-flat_map-take}
 use Rattle.std.proofs.lemmas.Grind.{flat_map-append}
-use Rattle.dash_script.specs.declared.form.Kind.TheVariants as kind
+use Rattle.dash_script.specs.declared.form.LineKind.TheVariants as kind
 use Rattle.dash_script.specs.declared.script.HandlerLine.{HandlerLine}
 use Rattle.dash_script.specs.declared.script.GaugeLine.{GaugeLine}
 use Rattle.dash_script.specs.declared.script.Rule.{Rule}

@@ -6,7 +6,7 @@ use Rattle.std.proofs.lemmas.Bool.{and_parts}
 use Rattle.std.proofs.lemmas.Bool.Decides.{nat_tests}
 use Rattle.dash_script.specs.declared.script.Script.{Script}
 use Rattle.dash_script.specs.declared.statement.Statement.{Statement}
-use Rattle.dash_script.specs.declared.form.Kind.TheVariants as kind
+use Rattle.dash_script.specs.declared.form.LineKind.TheVariants as kind
 use Rattle.dash_script.specs.Text.{script_lines, lines_before_end, say}
 use Rattle.dash_script.specs.Causes.{numbers_pass, is_within, each_number}
 use Rattle.dash_script.specs.Reading.{HasText}

@@ -1,14 +1,14 @@
 -- Which lines of a script an inbox run doesn't know.
 use Rattle.std.specs.Prelude.{ℕ, nat_lt, slice_index, Bool, true, false, List, Option}
 use Rattle.std.specs.List.{position_from}
-use Rattle.dash_script.specs.declared.form.Kind.{Kind}
-use Rattle.dash_script.specs.declared.form.Kind.TheVariants as kind
+use Rattle.dash_script.specs.declared.form.LineKind.{LineKind}
+use Rattle.dash_script.specs.declared.form.LineKind.TheVariants as kind
 use Rattle.dash_script.specs.declared.script.Script.{Script}
 use Rattle.dash_script.specs.declared.statement.Statement.{Statement}
 use Rattle.dash_script.specs.Text.{script_lines}
 
 -- it is a gauge or a reaction, or a command that is no post of a message or a callback, or names more than one looper
-abbrev pub is_bad_of : Kind → List ℕ → Bool
+abbrev pub is_bad_of : LineKind → List ℕ → Bool
 is_bad_of kind.Loopers ns = nat_lt 1 (slice_index ns 0)
 is_bad_of kind.Edition1 ns = false
 is_bad_of kind.Edition2 ns = false

@@ -7,7 +7,8 @@ use Rattle.std.specs.Fmt.{decimal}
 use Rattle.std.proofs.lemmas.Bool.{cases_Bool, lt-ltb}
 use Rattle.std.proofs.lemmas.Option.{none-some}
 use Rattle.std.proofs.lemmas.Slice.Eq.{bytes_eq-Decides}
-use Rattle.line_words.specs.Words.{spelled_number, maybe, one_of, IsShort, IsLong}
+use Rattle.line_words.specs.Words.{spelled_number}
+use Rattle.line_words.specs.Written.{maybe, one_of, IsShort, IsLong}
 use Rattle.line_words.specs.Taking as taking
 use Rattle.line_words.specs.Taking.{Rest, read, and_then, below, maybe_below}
 use Rattle.line_words.proofs.Spelling.{number_again}

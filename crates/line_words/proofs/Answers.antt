@@ -1,6 +1,5 @@
 -- What a reader answers of a text whose lines may be refused, by what is read.
-use Rattle.std.proofs.Common.{◌≡◌, ℕ, List, Option, Some, None, Result, Ok, Err, sym, ap, subst, ◌∙◌, inl}
-use Rattle.std.proofs.lemmas.Option.{same_Some}
+use Rattle.std.proofs.Common.{◌≡◌, ℕ, List, Result, Ok, Err, sym, ap, subst, ◌∙◌, inl}
 use Rattle.line_words.specs.Refusing.{Language, IsTextOf, IsRefusalOf}
 use Rattle.line_words.specs.RefusedReading.{read_text}
 use Rattle.line_words.specs.Answers.{Finds, FindsAll, Refuses, RefusesAll}

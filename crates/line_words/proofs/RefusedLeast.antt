@@ -8,7 +8,7 @@ use Rattle.line_words.specs.Refusing.{Language, with_said, IsTextOf}
 use Rattle.line_words.specs.RefusedReading.{goes_on, read_from, read_text}
 use Rattle.line_words.proofs.Splitting.{first_part}
 use Rattle.line_words.proofs.Joining.{AllFree, parts_free, line_first}
-use Rattle.line_words.proofs.Refusing.{answer, failed, not_both, same_line, reads_texts}
+use Rattle.line_words.proofs.Refusing.{failed, not_both, same_line, reads_texts}
 
 -- lines with their line feeds
 abbrev pub fed : List (List ℕ) → List ℕ

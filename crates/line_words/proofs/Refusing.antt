@@ -1,9 +1,9 @@
 -- A text whose lines may be refused is read where no line has a cause, and else refused for the least line that has one, with its first one.
 use Rattle.std.proofs.Common.{◌≡◌, ◌<◌, ◌+◌, ℕ, zero, suc, Bool, true, false, List, [], ◌∷◌, Option, Some, None, Result, Ok, Err, refl, sym, ap, ◌∙◌, arith}
-use Rattle.std.specs.Prelude.{◌↔◌, fold, take, drop}
-use Rattle.std.proofs.lemmas.Option.{same_Some, none-some}
+use Rattle.std.specs.Prelude.{◌↔◌, take, drop}
+use Rattle.std.proofs.lemmas.Option.{none-some}
 use Rattle.line_words.specs.Words.{pieces}
-use Rattle.line_words.specs.Refusing.{Language, with_said, held_by, first_cause, cause_behind, IsTextOf, IsRefusalOf}
+use Rattle.line_words.specs.Refusing.{Language, with_said, held_by, first_cause, IsTextOf, IsRefusalOf}
 use Rattle.line_words.specs.RefusedReading.{goes_on, read_from, read_text}
 
 module _ {T C : Type 0} where

@@ -9,7 +9,8 @@ use Rattle.std.specs.Fmt.{decimal}
 use Rattle.std.proofs.lemmas.Bool.{cases_Bool, ltb-true, and_parts}
 use Rattle.std.proofs.lemmas.Option.{same_Some, none-some, cond_some}
 use Rattle.std.proofs.lemmas.Slice.Eq.{bytes_eq-Decides}
-use Rattle.line_words.specs.Words.{spelled_number, is_numeral, maybe, one_of, IsShort, IsLong}
+use Rattle.line_words.specs.Words.{spelled_number, is_numeral}
+use Rattle.line_words.specs.Written.{maybe, one_of, IsShort, IsLong, WrittenWord, Fixed, Short, Long, MaybeShort, MaybeLong, FitsWord, spelled, spelled_words}
 use Rattle.line_words.specs.Taking as taking
 use Rattle.line_words.specs.Taking.{Rest, read, and_then, below, maybe_below, by_word}
 use Rattle.line_words.proofs.Spelling.{number_taken}
@@ -56,13 +57,9 @@ number_small w n e =
 
 -- ---- one word or two
 
--- what one word gives, which is written so and within these limits
-abbrev pub Takes : {A : Type 0} → (A → List ℕ) → (A → Type 0) → (Rest → Option (A × Rest)) → Type 0
-Takes {A} spell Within by = (ws : Rest) (y : A × Rest) → by ws ≡ Some y → Within y.0 × (ws ≡ spell y.0 ∷ y.1)
-
--- what takes no more than words has no limits
-abbrev pub Any : {A : Type 0} → A → Type 0
-Any a = Unit {0}
+-- what one word gives, which is written so, and within its width
+abbrev pub Takes : {A : Type 0} → (A → WrittenWord) → (Rest → Option (A × Rest)) → Type 0
+Takes {A} word by = (ws : Rest) (y : A × Rest) → by ws ≡ Some y → FitsWord (word y.0) × (ws ≡ spelled (word y.0) ∷ y.1)
 
 fixed_by : (spelling w : List ℕ) (more : Rest) (y : Unit {0} × Rest) → cond (bytes_eq w spelling) (Some (tt, more)) None ≡ Some y → (w ≡ spelling) × (more ≡ y.1)
 fixed_by spelling w more y e =
@@ -94,19 +91,19 @@ either_by first second w more y e =
           ]
     ]
 
-pub either_taken : (first second : List ℕ) → Takes (one_of first second) Any (taking.either first second)
+pub either_taken : (first second : List ℕ) → Takes (λ b. Fixed (one_of first second b)) (taking.either first second)
 unfolding taking.either
 either_taken first second ws y e =
     let p = parted (taking.word ws) _ y e in
     (tt, word_parted ws p.0 p.1 ∙ either_by first second p.0.0 p.0.1 y p.2)
 
-pub long_taken : Takes decimal IsLong taking.long
+pub long_taken : Takes Long taking.long
 unfolding taking.long
 long_taken ws y e =
     let p = one_taken spelled_number ws y e in
     (number_small p.0 y.0 p.1, p.2 ∙ ap (λ w. w ∷ y.1) (number_taken p.0 y.0 p.1))
 
-pub short_taken : Takes decimal IsShort taking.short
+pub short_taken : Takes Short taking.short
 unfolding taking.short
 short_taken ws y e =
     let p = parted (taking.long ws) _ y e in
@@ -132,7 +129,7 @@ maybe_by w m e =
       | inr other ↦ some_taken w (spelled_number w) m refl (rw other at e)
     ]
 
-pub maybe_long_taken : Takes maybe (λ o. IfSome o IsLong) taking.maybe_long
+pub maybe_long_taken : Takes MaybeLong taking.maybe_long
 unfolding taking.maybe_long
 maybe_long_taken ws y e =
     let p = one_taken _ ws y e in
@@ -147,7 +144,7 @@ maybe_below_taken (Some n) m e = some_below n m (below (2 ^ 32) n) refl e where
       let t = below_taken (2 ^ 32) n k is in
       subst (λ x. IfSome x IsShort × (Some n ≡ x)) (same_Some (Some k) m e) (subst IsShort t.1 t.0, ap Some t.1)
 
-pub maybe_short_taken : Takes maybe (λ o. IfSome o IsShort) taking.maybe_short
+pub maybe_short_taken : Takes MaybeShort taking.maybe_short
 unfolding taking.maybe_short
 maybe_short_taken ws y e =
     let p = parted (taking.maybe_long ws) _ y e in
@@ -156,17 +153,21 @@ maybe_short_taken ws y e =
     (b.0, (maybe_long_taken ws p.0 p.1).1 ∙ ap (λ o. maybe o ∷ p.0.1) b.1 ∙ ap (λ r. maybe y.0 ∷ r) q.1)
 
 -- a word was read, and what is made of it and of the rest was made too
-pub word_then : {A C : Type 0} (spell : A → List ℕ) (Within : A → Type 0) (by : Rest → Option (A × Rest)) → Takes spell Within by
-    → (P : Type 0) (ws : Rest) (f : A → Rest → Option C) (y : C) → and_then (by ws) f ≡ Some y → ((a : A) (rest : Rest) → Within a → ws ≡ spell a ∷ rest → f a rest ≡ Some y → P) → P
-word_then spell Within by taken P ws f y e go =
+pub word_then : {A C : Type 0} (word : A → WrittenWord) (by : Rest → Option (A × Rest)) → Takes word by → (P : Type 0) (ws : Rest) (f : A → Rest → Option C) (y : C) → and_then (by ws) f ≡ Some y
+    → ((a : A) (rest : Rest) → FitsWord (word a) → ws ≡ spelled (word a) ∷ rest → f a rest ≡ Some y → P) → P
+word_then word by taken P ws f y e go =
     let p = parted (by ws) f y e in
     let t = taken ws p.0 p.1 in go p.0.0 p.0.1 t.0 t.1 p.2
 
 -- ---- what stands behind a word
 
--- what is read behind the word of this row is written so, word and all, and within these limits
-abbrev pub RowTakes : {A : Type 0} → (A → Rest) → (A → Type 0) → List ℕ × (Rest → Option (A × Rest)) → Type 0
-RowTakes {A} spell Within row = (rest : Rest) (y : A × Rest) → row.1 rest ≡ Some y → Within y.0 × (row.0 ∷ rest ≡ spell y.0 ++ y.1)
+-- words that were read are written so, and within their widths
+abbrev pub Spells : {A : Type 0} → (A → List WrittenWord) → Rest → A × Rest → Type 0
+Spells words ws y = AllByRecursion FitsWord (words y.0) × (ws ≡ spelled_words (words y.0) ++ y.1)
+
+-- what is read behind the word of this row is written so, word and all
+abbrev pub RowTakes : {A : Type 0} → (A → List WrittenWord) → List ℕ × (Rest → Option (A × Rest)) → Type 0
+RowTakes {A} words row = (rest : Rest) (y : A × Rest) → row.1 rest ≡ Some y → Spells words (row.0 ∷ rest) y
 
 -- what holds of each row holds of what the table gives
 pub rows_hold : {C : Type 0} (P : List ℕ → Rest → C → Type 0) (rows : List (List ℕ × (Rest → Option C))) → AllByRecursion (λ row. (rest : Rest) (y : C) → row.1 rest ≡ Some y → P row.0 rest y) rows
@@ -178,6 +179,6 @@ rows_hold P (row ∷ rows) all w rest y e =
       | inr other ↦ rows_hold P rows all.1 w rest y (rw other at e)
     ]
 
-pub rows_taken : {A : Type 0} (spell : A → Rest) (Within : A → Type 0) (rows : List (List ℕ × (Rest → Option (A × Rest)))) → AllByRecursion (RowTakes spell Within) rows
-    → (w : List ℕ) (rest : Rest) (y : A × Rest) → by_word rows w rest ≡ Some y → Within y.0 × (w ∷ rest ≡ spell y.0 ++ y.1)
-rows_taken spell Within = rows_hold (λ w rest y. Within y.0 × (w ∷ rest ≡ spell y.0 ++ y.1))
+pub rows_taken : {A : Type 0} (words : A → List WrittenWord) (rows : List (List ℕ × (Rest → Option (A × Rest)))) → AllByRecursion (RowTakes words) rows
+    → (w : List ℕ) (rest : Rest) (y : A × Rest) → by_word rows w rest ≡ Some y → Spells words (w ∷ rest) y
+rows_taken words = rows_hold (λ w rest y. Spells words (w ∷ rest) y)

@@ -1,11 +1,14 @@
 -- The words of a line that is written are read again, and bytes with these words are the line.
-use Rattle.std.proofs.Common.{◌≡◌, ◌<◌, ◌^◌, ℕ, Bool, true, false, List, [], ◌∷◌, ◌++◌, Option, Some, None, refl, sym, ap, ◌∙◌, arith}
+use Rattle.std.proofs.Common.{◌≡◌, ◌<◌, ◌^◌, ℕ, Bool, true, false, List, [], ◌∷◌, ◌++◌, Option, Some, None, refl, sym, ap, ◌∙◌, arith, append_assoc}
 use Rattle.std.specs.Prelude.{IfSome}
-use Rattle.std.specs.List.{join_with_byte}
+use Rattle.std.specs.List.{join_with_byte, AllByRecursion}
 use Rattle.std.specs.Fmt.{decimal}
+use Rattle.std.proofs.lemmas.List.{map-append}
 use Rattle.std.proofs.lemmas.List.Splits.{join_with_byte-slice_split}
 use Rattle.std.proofs.lemmas.Fmt.{digits_decimal}
-use Rattle.line_words.specs.Words.{words, maybe, one_of, IsShort, IsLong}
+use Rattle.line_words.specs.Words.{words}
+use Rattle.line_words.specs.Written.{maybe, one_of, IsShort, IsLong, WrittenWord, FitsWord, spelled, spelled_words}
+use Rattle.line_words.specs.Taking.{Rest}
 use Rattle.line_words.proofs.Spelling.{own}
 use Rattle.line_words.proofs.Joining.{is_free, digits_free, AllFree, join_free, words_joined}
 
@@ -62,3 +65,11 @@ maybe_short_word (Some n) fit = short_word n fit
 pub one_word : (first second : List ℕ) (b : Bool) → IsWord first → IsWord second → IsWord (one_of first second b)
 one_word first second true f s = f
 one_word first second false f s = s
+
+-- the words of two lists are those of the one, and behind them those of the other
+pub spelled_on : (xs ys : List WrittenWord) (rest : Rest) → spelled_words (xs ++ ys) ++ rest ≡ spelled_words xs ++ (spelled_words ys ++ rest)
+spelled_on xs ys rest = ap (λ v. v ++ rest) (map-append spelled xs ys) ∙ append_assoc (spelled_words xs) (spelled_words ys) rest
+
+pub fit_parted : (xs ys : List WrittenWord) → AllByRecursion FitsWord (xs ++ ys) → AllByRecursion FitsWord xs × AllByRecursion FitsWord ys
+fit_parted [] ys fit = (tt, fit)
+fit_parted (x ∷ xs) ys fit = let rest = fit_parted xs ys fit.1 in ((fit.0, rest.0), rest.1)

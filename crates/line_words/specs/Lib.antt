@@ -1,4 +1,5 @@
 pub mod Words
+pub mod Written
 pub mod Rests
 pub mod Taking
 pub mod LeastBad

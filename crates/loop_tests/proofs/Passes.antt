@@ -3,7 +3,7 @@ use Rattle.std.proofs.Common.{◌≡◌, ◌≢◌, List, Option, Some, sym, ap,
 use mathlib.Core.List.{IsPrefix}
 use Rattle.loop_model.proofs.Prefixes.{prefix_trans}
 use Rattle.frame_phases.specs.declared.entry.FrameEntry.{FrameEntry}
-use Rattle.choreographer.specs.declared.kept.Kept.{Kept}
+use Rattle.choreographer.specs.declared.state.StampedFrames.{StampedFrames}
 use Rattle.choreographer.specs.declared.hosted.Pulse.{Pulse}
 use Rattle.choreographer.specs.declared.frame.Framed.{Framed}
 use Rattle.choreographer.specs.declared.frame.Framed.TheVariants.{Unscheduled}
@@ -25,7 +25,7 @@ alone_begins q before after came pulse of_it named same is awaits = (
 )
 
 -- so that frame is scheduled
-pub alone_scheduled : (q : SharedFrames) (before middle after : Pass) (x y : Kept) (result : Framed) → IsPassOf before q → q.constants.pulses ≡ Some before.number → IsFrameTurn before middle x y
+pub alone_scheduled : (q : SharedFrames) (before middle after : Pass) (x y : StampedFrames) (result : Framed) → IsPassOf before q → q.constants.pulses ≡ Some before.number → IsFrameTurn before middle x y
     → EndsWait middle after result → result ≢ Unscheduled
 alone_scheduled q before middle after x y result of_it named turn ends = λ is.
     subst (EndsWait middle after) is ends q.constants (turn.constants ∙ of_it.1) (named ∙ ap Some (sym turn.number))

@@ -136,8 +136,8 @@ pub fn run_here<
     run_looper(&mailbox, &mut looper, handlers)
 }
 
-// Does the work, and then quits the queue safely by this sender.
-fn work_and_quit<R: Wait, C: Clock, T, W: FnOnce(&Mailbox<R, C>, Senders) -> T>(
+/// Does the work, and then quits the queue safely by this sender (`Looper.quitSafely`).
+pub fn work_and_quit<R: Wait, C: Clock, T, W: FnOnce(&Mailbox<R, C>, Senders) -> T>(
     mailbox: &Mailbox<R, C>,
     senders: Senders,
     mut last: Sender,

@@ -5,6 +5,7 @@ ghost use Rattle.handler_post.specs.Ways.{IsReady};
 ghost use Rattle.plain_loop.specs.Lines.{KeepsLine, way_of};
 ghost use Rattle.plain_loop.specs.Handling.{IsWorkplaceOf, HasJustTaken, HasJustTakenCallback, did_of};
 
+use crate::lent_line;
 use crate::lines::Line;
 use crate::mailbox::Mailbox;
 use loop_io::Clock;
@@ -123,15 +124,7 @@ impl<'a, R: Wait, C: Clock, E: Recorder, H: Handle<R, C, E>> Dispatcher
     }
 
     fn run_callback(&mut self, own: &mut Own<E>, id: u64, m: &Message<PoolClaim>, now: u64) -> Did {
-        let mut line = Line {
-            rt: self.mailbox.rt,
-            alloc: self.mailbox.alloc,
-            clock: self.mailbox.clock,
-            queue: self.mailbox.queue,
-            poster: own.poster,
-            pool: self.mailbox.pool,
-            pass: own.pass,
-        };
+        let mut line = lent_line!(self.mailbox, own);
         did(self.handlers.run_callback(&mut line, id, now))
     }
 
@@ -140,15 +133,7 @@ impl<'a, R: Wait, C: Clock, E: Recorder, H: Handle<R, C, E>> Dispatcher
     }
 
     fn handle(&mut self, own: &mut Own<E>, m: &Message<PoolClaim>, now: u64) -> Did {
-        let mut line = Line {
-            rt: self.mailbox.rt,
-            alloc: self.mailbox.alloc,
-            clock: self.mailbox.clock,
-            queue: self.mailbox.queue,
-            poster: own.poster,
-            pool: self.mailbox.pool,
-            pass: own.pass,
-        };
+        let mut line = lent_line!(self.mailbox, own);
         did(self.handlers.handle(&mut line, m, now))
     }
 

@@ -14,7 +14,7 @@ mod value_handlers;
 mod value_looper;
 mod values;
 
-pub use beside::{loop_and_let_go, run_beside, run_here, run_looper};
+pub use beside::{loop_and_let_go, run_beside, run_here, run_looper, work_and_quit};
 pub use frames::{Draw, Drawing, Outbox};
 pub use handlers::{Handle, Handled, Handling, Msg, did};
 pub use laws::value_is_sent;

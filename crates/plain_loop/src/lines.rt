@@ -37,6 +37,37 @@ pub struct Line<'a, R: Wait, C: Clock, E: Recorder = Unkept, P: Payload = ()> {
     pub pass: &'a mut PoolPass<P>,
 }
 
+/// The line of a mailbox, or of what else has its fields, by the poster and the pass of what is lent. It is no function, since what calls on
+/// a line leave behind its references is told only where the line was made (this project's profile).
+#[macro_export]
+macro_rules! lent_line {
+    ($of:expr, $lent:expr) => {
+        $crate::Line {
+            rt: $of.rt,
+            alloc: $of.alloc,
+            clock: $of.clock,
+            queue: $of.queue,
+            poster: $lent.poster,
+            pool: $of.pool,
+            pass: $lent.pass,
+        }
+    };
+}
+
+// The way of a line.
+macro_rules! lent_way {
+    ($line:expr) => {
+        Way {
+            queue: $line.queue,
+            poster: $line.poster,
+            pool: $line.pool,
+            pass: $line.pass,
+        }
+    };
+}
+
+pub(crate) use lent_way;
+
 pub(crate) fn due(post: Post, when: u64) -> Post
     ensures { result ≡ post_for post when }
 {
@@ -68,12 +99,7 @@ impl<'a, R: Wait, C: Clock, E: Recorder, P: Payload> Line<'a, R, C, E, P> {
         ensures sent { Sends (post_for post when) (way_of self.old) (way_of self.new) result }
     {
         let due = due(post, when);
-        let mut way = Way {
-            queue: self.queue,
-            poster: self.poster,
-            pool: self.pool,
-            pass: self.pass,
-        };
+        let mut way = lent_way!(self);
         way.send(self.rt, self.alloc, &due)
     }
 
@@ -102,12 +128,7 @@ impl<'a, R: Wait, C: Clock, E: Recorder, P: Payload> Line<'a, R, C, E, P> {
         ensures keeps { KeepsLine (way_of self.old) (way_of self.new) }
         ensures erased { Erases filter (way_of self.old) (way_of self.new) result }
     {
-        let mut way = Way {
-            queue: self.queue,
-            poster: self.poster,
-            pool: self.pool,
-            pass: self.pass,
-        };
+        let mut way = lent_way!(self);
         way.remove(self.rt, &filter)
     }
 
@@ -117,12 +138,7 @@ impl<'a, R: Wait, C: Clock, E: Recorder, P: Payload> Line<'a, R, C, E, P> {
         ensures keeps { KeepsLine (way_of self.old) (way_of self.new) }
         ensures has { Has filter (way_of self.old) (way_of self.new) result }
     {
-        let mut way = Way {
-            queue: self.queue,
-            poster: self.poster,
-            pool: self.pool,
-            pass: self.pass,
-        };
+        let mut way = lent_way!(self);
         way.has(self.rt, &filter)
     }
 
@@ -133,12 +149,7 @@ impl<'a, R: Wait, C: Clock, E: Recorder, P: Payload> Line<'a, R, C, E, P> {
         ensures idle { AtNow (C.shows self.old.clock.now) (λ now. TellsIdle now (way_of self.old) (way_of self.new) result) }
     {
         let now = self.clock.uptime_millis();
-        let mut way = Way {
-            queue: self.queue,
-            poster: self.poster,
-            pool: self.pool,
-            pass: self.pass,
-        };
+        let mut way = lent_way!(self);
         way.is_idle(self.rt, now)
     }
 
@@ -150,12 +161,7 @@ impl<'a, R: Wait, C: Clock, E: Recorder, P: Payload> Line<'a, R, C, E, P> {
         ensures none { OnErr result (MadeNone self.old.poster.now self.new.poster.now) }
     {
         let now = self.clock.uptime_millis();
-        let mut way = Way {
-            queue: self.queue,
-            poster: self.poster,
-            pool: self.pool,
-            pass: self.pass,
-        };
+        let mut way = lent_way!(self);
         way.post_barrier(self.rt, self.alloc, now)
     }
 
@@ -166,12 +172,7 @@ impl<'a, R: Wait, C: Clock, E: Recorder, P: Payload> Line<'a, R, C, E, P> {
         ensures unbarred { IfOk result (λ was. Unbars token was (way_of self.old) (way_of self.new)) }
         ensures none { OnErr result (MadeNone self.old.poster.now self.new.poster.now) }
     {
-        let mut way = Way {
-            queue: self.queue,
-            poster: self.poster,
-            pool: self.pool,
-            pass: self.pass,
-        };
+        let mut way = lent_way!(self);
         way.remove_barrier(self.rt, token)
     }
 
@@ -200,12 +201,7 @@ impl<'a, R: Wait, C: Clock, E: Recorder, P: Payload> Line<'a, R, C, E, P> {
         ensures quits { AtNow (C.shows self.old.clock.now) (λ now. Quits safe now (way_of self.old) (way_of self.new) result) }
     {
         let now = self.clock.uptime_millis();
-        let mut way = Way {
-            queue: self.queue,
-            poster: self.poster,
-            pool: self.pool,
-            pass: self.pass,
-        };
+        let mut way = lent_way!(self);
         way.quit(self.rt, safe, now)
     }
 }

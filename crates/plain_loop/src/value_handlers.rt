@@ -7,6 +7,7 @@ ghost use Rattle.plain_loop.specs.Lines.{KeepsLine, way_of};
 ghost use Rattle.plain_loop.specs.Values.{IsValueOf};
 
 use crate::handlers::{Handled, Msg, did};
+use crate::lent_line;
 use crate::lines::Line;
 use crate::mailbox::Mailbox;
 use loop_io::Clock;
@@ -144,15 +145,7 @@ impl<'a, R: Wait, C: Clock, H: HandleValues<R, C>> Dispatcher for HandlingValues
         now: u64,
     ) -> Did {
         let mut carried = self.carried.take();
-        let mut line = Line {
-            rt: self.mailbox.rt,
-            alloc: self.mailbox.alloc,
-            clock: self.mailbox.clock,
-            queue: self.mailbox.queue,
-            poster: own.poster,
-            pool: self.mailbox.pool,
-            pass: own.pass,
-        };
+        let mut line = lent_line!(self.mailbox, own);
         did(
             self.handlers
                 .run_callback(&mut line, m.number(), id, &mut carried, now),
@@ -166,15 +159,7 @@ impl<'a, R: Wait, C: Clock, H: HandleValues<R, C>> Dispatcher for HandlingValues
     fn handle(&mut self, own: &mut Own<Unkept, H::Value>, m: &Msg<H::Value>, now: u64) -> Did {
         let mut carried = self.carried.take();
         let post = m.as_post();
-        let mut line = Line {
-            rt: self.mailbox.rt,
-            alloc: self.mailbox.alloc,
-            clock: self.mailbox.clock,
-            queue: self.mailbox.queue,
-            poster: own.poster,
-            pool: self.mailbox.pool,
-            pass: own.pass,
-        };
+        let mut line = lent_line!(self.mailbox, own);
         did(
             self.handlers
                 .handle(&mut line, m.number(), &post, &mut carried, now),

@@ -6,7 +6,7 @@ ghost use Rattle.handler_post.specs.Values.{SendsWith};
 ghost use Rattle.plain_loop.specs.Lines.{KeepsLine, post_for, way_of, AtNow};
 ghost use Rattle.plain_loop.specs.Values.{AreOf, AreAsAccepted, HandsValueOut, TakesOut, TakesNone, QuitsWith, IsValueOf, IfAccepted};
 
-use crate::lines::{Line, due};
+use crate::lines::{Line, due, lent_way};
 use handler_post::{Quit, SentWith, Way, recycle_with};
 use loop_io::Clock;
 use loop_model::{Filter, NoMemory, Post};
@@ -121,12 +121,7 @@ impl<'a, R: Wait, C: Clock, E: Recorder, P: Payload> Line<'a, R, C, E, P> {
         ensures accepted { IfAccepted result (λ number. IsValueOf P.content self.new.poster.now number (Some value)) }
     {
         let due = due(post, when);
-        let mut way = Way {
-            queue: self.queue,
-            poster: self.poster,
-            pool: self.pool,
-            pass: self.pass,
-        };
+        let mut way = lent_way!(self);
         way.send_with(self.rt, self.alloc, &due, value)
     }
 
@@ -162,12 +157,7 @@ impl<'a, R: Wait, C: Clock, E: Recorder, P: Payload> Line<'a, R, C, E, P> {
         ensures taken { IfOk result (TakesOut filter (way_of self.old) (way_of self.new)) }
         ensures none { OnErr result (TakesNone (way_of self.old) (way_of self.new)) }
     {
-        let mut way = Way {
-            queue: self.queue,
-            poster: self.poster,
-            pool: self.pool,
-            pass: self.pass,
-        };
+        let mut way = lent_way!(self);
         take_out(self.rt, &mut way, &filter)
     }
 
@@ -204,12 +194,7 @@ impl<'a, R: Wait, C: Clock, E: Recorder, P: Payload> Line<'a, R, C, E, P> {
         ensures quits { AtNow (C.shows self.old.clock.now) (λ now. QuitsWith safe now (way_of self.old) (way_of self.new) result.0 result.1) }
     {
         let now = self.clock.uptime_millis();
-        let mut way = Way {
-            queue: self.queue,
-            poster: self.poster,
-            pool: self.pool,
-            pass: self.pass,
-        };
+        let mut way = lent_way!(self);
         quit_with(self.rt, self.alloc, &mut way, safe, now)
     }
 
@@ -222,12 +207,7 @@ impl<'a, R: Wait, C: Clock, E: Recorder, P: Payload> Line<'a, R, C, E, P> {
         ensures of { AreOf self.new.pool.now values.new }
         ensures value { HandsValueOut P.content values.old values.new (way_of self.old) (way_of self.new) result }
     {
-        let mut way = Way {
-            queue: self.queue,
-            poster: self.poster,
-            pool: self.pool,
-            pass: self.pass,
-        };
+        let mut way = lent_way!(self);
         hand_out(&mut way, values)
     }
 }

@@ -16,9 +16,9 @@ use Rattle.run_picture.specs.declared.report.Act.{Act as ActData}
 use Rattle.run_picture.specs.declared.report.Run.{Run as RunData}
 use Rattle.run_picture.specs.declared.report.Frame.{Frame as FrameData}
 use Rattle.run_picture.specs.declared.report.Looper.{Looper as LooperData}
-use Rattle.run_picture.specs.declared.line.Line.{Line}
-use Rattle.run_picture.specs.declared.line.Line.TheVariants.{Title, Looper, Past, Fates, Act, Frame, Run, End}
-use Rattle.run_picture.specs.Text.{AddsUp, FitsReportLine, picture_frame_lines, picture_looper_lines, picture_loopers_lines, picture_lines}
+use Rattle.run_picture.specs.declared.line.ReportLine.{ReportLine}
+use Rattle.run_picture.specs.declared.line.ReportLine.TheVariants.{Title, Looper, Past, Fates, Act, Frame, Run, End}
+use Rattle.run_picture.specs.Text.{AddsUp, FitsReportLine, read_frame_lines, read_looper_lines, read_loopers_lines, read_report_lines}
 use Rattle.report_law.specs.Seen.{counted_fates, seen_looper, seen_loopers, seen}
 use Rattle.report_law.specs.Laws.{HasLimits, PrintedIsRead}
 use Rattle.report_law.proofs.Same.{text_same}
@@ -54,7 +54,7 @@ add_up fs =
 -- ---- the lines
 
 -- where it counts fates, they add up
-abbrev IsSummed : Line → Type 0
+abbrev IsSummed : ReportLine → Type 0
 IsSummed (Title edition) = Unit {0}
 IsSummed (Looper number) = Unit {0}
 IsSummed (Past p) = Unit {0}
@@ -76,43 +76,43 @@ runs_summed : (rs : List RunData) → AllByRecursion IsSummed (map Run rs)
 runs_summed [] = tt
 runs_summed (r ∷ rs) = (tt, runs_summed rs)
 
-frames_summed : (fs : List FrameData) → AllByRecursion IsSummed (flat_map picture_frame_lines fs)
+frames_summed : (fs : List FrameData) → AllByRecursion IsSummed (flat_map read_frame_lines fs)
 frames_summed [] = tt
-frames_summed (f ∷ fs) = (tt, AllByRecursion-append IsSummed (map Run f.runs) (flat_map picture_frame_lines fs) (runs_summed f.runs) (frames_summed fs))
+frames_summed (f ∷ fs) = (tt, AllByRecursion-append IsSummed (map Run f.runs) (flat_map read_frame_lines fs) (runs_summed f.runs) (frames_summed fs))
 
-looper_summed : (n : ℕ) (l : LooperData) → AddsUp l.fates → AllByRecursion IsSummed (picture_looper_lines n l)
+looper_summed : (n : ℕ) (l : LooperData) → AddsUp l.fates → AllByRecursion IsSummed (read_looper_lines n l)
 looper_summed n l sum =
-    AllByRecursion-append IsSummed (Looper n ∷ map Past l.past ++ Fates l.fates ∷ map Act l.acts) (flat_map picture_frame_lines l.frames)
+    AllByRecursion-append IsSummed (Looper n ∷ map Past l.past ++ Fates l.fates ∷ map Act l.acts) (flat_map read_frame_lines l.frames)
     (tt, AllByRecursion-append IsSummed (map Past l.past) (Fates l.fates ∷ map Act l.acts) (past_summed l.past) (sum, acts_summed l.acts))
     (frames_summed l.frames)
 
 loopers_summed : (n : ℕ) (qs : List QueueRecord) (js : List Journal) (fs : List FrameRecord)
-    → AllByRecursion IsSummed (picture_loopers_lines n (seen_loopers qs js fs))
+    → AllByRecursion IsSummed (read_loopers_lines n (seen_loopers qs js fs))
 loopers_summed n [] js fs = tt
 loopers_summed n (q ∷ qs) [] fs = tt
 loopers_summed n (q ∷ qs) (j ∷ js) [] = tt
 loopers_summed n (q ∷ qs) (j ∷ js) (f ∷ fs) =
-    AllByRecursion-append IsSummed (picture_looper_lines n (seen_looper q j f)) (picture_loopers_lines (n + 1) (seen_loopers qs js fs))
+    AllByRecursion-append IsSummed (read_looper_lines n (seen_looper q j f)) (read_loopers_lines (n + 1) (seen_loopers qs js fs))
     (looper_summed n (seen_looper q j f) (add_up (fates (history_of q))))
     (loopers_summed (n + 1) qs js fs)
 
-line_fits : (l : Line) → HasLimits l → IsSummed l → FitsReportLine l
+line_fits : (l : ReportLine) → HasLimits l → IsSummed l → FitsReportLine l
 line_fits (Title edition) limits sum = limits
 line_fits (Looper number) limits sum = limits
 line_fits (Past p) limits sum = limits
-line_fits (Fates f) limits sum = (limits.0, limits.1, limits.2, limits.3, limits.4, limits.5, sum)
+line_fits (Fates f) limits sum = (limits, sum)
 line_fits (Act a) limits sum = limits
 line_fits (Frame time) limits sum = limits
 line_fits (Run r) limits sum = limits
 line_fits End limits sum = limits
 
-lines_fit : (ls : List Line) → AllByRecursion HasLimits ls → AllByRecursion IsSummed ls → AllByRecursion FitsReportLine ls
+lines_fit : (ls : List ReportLine) → AllByRecursion HasLimits ls → AllByRecursion IsSummed ls → AllByRecursion FitsReportLine ls
 lines_fit [] limits sums = tt
 lines_fit (l ∷ ls) limits sums = (line_fits l limits.0 sums.0, lines_fit ls limits.1 sums.1)
 
 pub printed_read : PrintedIsRead
 printed_read r counted framed limits =
-    let loopers = picture_loopers_lines 0 (seen_loopers r.queues r.journals r.frames) in
-    let sums : AllByRecursion IsSummed (picture_lines (seen r)) =
+    let loopers = read_loopers_lines 0 (seen_loopers r.queues r.journals r.frames) in
+    let sums : AllByRecursion IsSummed (read_report_lines (seen r)) =
     AllByRecursion-append IsSummed (Title r.script.edition ∷ loopers) (End ∷ []) (tt, loopers_summed 0 r.queues r.journals r.frames) (tt, tt) in
-    (text_same r counted framed, lines_fit (picture_lines (seen r)) limits sums)
+    (text_same r counted framed, lines_fit (read_report_lines (seen r)) limits sums)

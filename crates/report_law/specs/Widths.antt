@@ -16,7 +16,7 @@ use Rattle.frame_phases.specs.declared.entry.Callback.{Callback}
 use Rattle.frame_phases.specs.declared.entry.FrameEntry.{FrameEntry}
 use Rattle.frame_phases.specs.declared.entry.FrameEntry.TheVariants.{Posted, Begin}
 use Rattle.frame_phases.specs.declared.entry.FrameRecord.{FrameRecord}
-use Rattle.line_words.specs.Words.{IsShort, IsLong}
+use Rattle.line_words.specs.Written.{IsShort, IsLong}
 use Rattle.run_model.specs.declared.report.Report.{Report}
 
 -- what a line tells of a post: its handler, and its what or its callback

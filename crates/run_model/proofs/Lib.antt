@@ -20,6 +20,7 @@ pub mod NotRunsTimes
 pub mod NotRunsMoves
 pub mod NotRunsTurns
 pub mod NotRunsPulses
+pub mod NotStaged
 pub mod RunLaws
 pub mod FreeRun
 pub mod NotRunsByClock

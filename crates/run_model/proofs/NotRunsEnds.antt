@@ -1,5 +1,5 @@
--- Reports that are no runs of their script: a side looper ends before a call of its time.
-use Rattle.std.proofs.Common.{ℕ, refl, false, List, [], ◌∷◌, None}
+-- Reports that are no runs of their script: a side looper ends before a call of its time, or main does.
+use Rattle.std.proofs.Common.{◌≡◌, ℕ, refl, true, false, List, [], ◌∷◌, ◌++◌, None}
 use Rattle.std.specs.List.{AllByRecursion}
 use Rattle.loop_model.specs.declared.call.Call.TheVariants as call
 use Rattle.loop_model.specs.declared.reply.Reply.TheVariants as reply
@@ -11,7 +11,7 @@ use Rattle.dash_script.specs.declared.script.Script.{Script}
 use Rattle.run_model.proofs.Examples.{entry, halted_at, handler_on, block, by, plain_script, message}
 use Rattle.run_model.proofs.RunBut as but
 use Rattle.run_model.proofs.Table.{Row, quiet, computing}
-use Rattle.run_model.proofs.OneFault.{Faulty, faulty, Fails, each_untimely}
+use Rattle.run_model.proofs.OneFault.{FailsBy, fails_by, Faulty, faulty, Fails, each_untimely}
 
 -- thread 1 quits the side looper
 abbrev pub quits_side : Line
@@ -49,3 +49,15 @@ early_ends =
 pub early_ends_fail : AllByRecursion Fails early_ends
 unfolding computing
 early_ends_fail = each_untimely early_ends refl refl
+
+-- at the end a thread posts to main
+abbrev last_post : Script
+last_post = plain_script 1 1 (handler_on 0 ∷ []) (block 10 (by 0 (command.Post 0 7 5) ∷ []) ∷ []) 10
+
+abbrev halted_first : List Row
+halted_first = quiet (halted_at 2 10 ++ entry 0 0 (call.Post (message 0 7 15 None)) (reply.Accepted 0) ∷ []) 0 ∷ []
+
+-- main is halted before that
+pub calls_behind_halt : FailsBy but.Halted last_post halted_first
+unfolding computing
+calls_behind_halt = fails_by but.Halted last_post halted_first (λ r. let ends : false ≡ true = r.timely.halted in cc) refl

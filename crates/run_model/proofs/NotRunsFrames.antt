@@ -8,11 +8,13 @@ use Rattle.loop_model.specs.declared.journal.Act.TheVariants as act
 use Rattle.loop_model.specs.declared.journal.Route.TheVariants as route
 use Rattle.frame_phases.specs.declared.entry.FrameEntry.{FrameEntry}
 use Rattle.frame_phases.specs.declared.entry.FrameEntry.TheVariants as frame
+use Rattle.frame_phases.specs.Frames.{lawful}
 use Rattle.frame_phases.specs.Pulses.{are_stamped}
 use Rattle.dash_script.specs.declared.script.Command.{Command}
 use Rattle.dash_script.specs.declared.script.Command.TheVariants as command
 use Rattle.dash_script.specs.declared.script.Line.{Line}
 use Rattle.dash_script.specs.declared.script.Script.{Script}
+use Rattle.dash_script.specs.Causes.{phase_count}
 use Rattle.run_model.specs.Planned.{history_of}
 use Rattle.run_model.specs.Moments.{in_lockstep}
 use Rattle.run_model.specs.Loopers.{LooperState, first_looper, asked_then}
@@ -137,3 +139,34 @@ not_latest =
 pub not_latest_fail : AllByRecursion Fails not_latest
 unfolding computing
 not_latest_fail = each_fails main_tells_asked told_by_run not_latest refl refl
+
+-- ---- unlawful records
+
+-- main's frame record is lawful
+abbrev is_main_lawful : Script → List Row → Bool
+is_main_lawful s [] = true
+is_main_lawful s (row ∷ rows) = lawful s.period (phase_count s.edition) row.frames
+
+lawful_by_run : (s : Script) (rows : List Row) → IsRun in_lockstep s (report_of s rows) → is_main_lawful s rows ≡ true
+lawful_by_run s [] r = refl
+lawful_by_run s (row ∷ rows) r = r.frames.0.lawful
+
+abbrev unlawful : List Faulty
+unlawful =
+    -- a frame callback that is posted at 10 with a delay of 20 runs in the frame at 17
+    faulty but.Lawful (plain_script 1 1 (handler_on 0 ∷ []) (block 10 (by 0 (command.Frame 0 0 8 20) ∷ []) ∷ []) 34) (record {
+      entries = entry 2 0 (call.Advance 10) reply.Advanced ∷ entry 0 0 (call.Post (record (frame_message 0 30 None) { what = 2 })) (reply.Accepted 0)
+          ∷ entry 2 1 (call.Advance 17) reply.Advanced ∷ entry 1 0 (call.Post (frame_message 0 16 None)) (reply.Accepted 1)
+          ∷ entry 1 1 (call.Next 17) (reply.Dispatched 1) ∷ entry 2 2 (call.Advance 30) reply.Advanced ∷ entry 1 2 (call.Next 30) (reply.Dispatched 0)
+          ∷ entry 2 3 (call.Advance 34) reply.Advanced ∷ entry 2 4 (call.Halt 34) reply.Halted ∷ [];
+      acts = act.Vsync 16666667 ∷ act.Dispatch 1 17 route.Intercepted ∷ act.Dispatch 0 30 route.Intercepted ∷ [];
+      frames = frame.Posted (callback 0 0 30 8) ∷ frame.Begin 16666667 17000000 16666667 ∷ frame.Take 0 17000000 16666667 ∷ frame.Ran 0
+          ∷ frame.Take 1 17000000 16666667 ∷ frame.Take 2 17000000 16666667 ∷ frame.Take 3 17000000 16666667 ∷ [];
+      places = None ∷ Some 1 ∷ [];
+      disposed_at = 0;
+    } ∷ [])
+    ∷ []
+
+pub unlawful_fail : AllByRecursion Fails unlawful
+unfolding computing
+unlawful_fail = each_fails is_main_lawful lawful_by_run unlawful refl refl

@@ -1,5 +1,5 @@
 -- Reports that are no runs of their script: the frames, pulses and callbacks of a gauge, with one fault.
-use Rattle.std.proofs.Common.{◌≡◌, ℕ, refl, true, false, List, [], ◌∷◌, ◌++◌, Some, None, sym, ◌∙◌}
+use Rattle.std.proofs.Common.{◌≡◌, ℕ, refl, true, false, List, [], ◌∷◌, ◌++◌, Some, None, sym, ap, ◌∙◌}
 use Rattle.std.specs.Prelude.{Bool, ◌&&◌}
 use Rattle.std.proofs.lemmas.Bool.{and_from}
 use Rattle.loop_model.specs.declared.call.Call.TheVariants as call
@@ -127,3 +127,28 @@ short_rows = record (acting short_entries short_acts 0) { frames = short_frames 
 pub posts_no_frame : FailsBy but.Asked (gauge_script 10) short_rows
 unfolding computing
 posts_no_frame = fails_by but.Asked (gauge_script 10) short_rows (λ r. let wrong : false ≡ true = told_by_run (gauge_script 10) short_rows r in cc) refl
+
+-- what is painted last is told
+abbrev is_told : List Act → Bool
+is_told [] = true
+is_told (x ∷ xs) = false
+
+abbrev tells_paints : LooperState → Bool
+tells_paints b = is_told b.painted
+
+abbrev painted_acts : List Act
+painted_acts = gauge_acts ++ act.Paint 0 7 ∷ []
+
+abbrev painted_rows : List Row
+painted_rows = frame_rows gauge_entries painted_acts (gauge_frames 17000000 17000000 last_phase)
+
+-- a gauge is painted once more behind the last dispatch
+pub paints_behind : FailsBy but.Settled (gauge_script 20) painted_rows
+unfolding computing
+paints_behind = fails_by but.Settled (gauge_script 20) painted_rows no_run refl
+  where
+    no_run : IsRun in_lockstep (gauge_script 20) (report_of (gauge_script 20) painted_rows) → ⊥
+    no_run r =
+        let l = r.loopers.0 in
+        let wrong : false ≡ true = led_passes tells_paints (gauge_script 20) 0 gauge_entries (gauge_frames 17000000 17000000 last_phase) (first_looper (gauge_script 20)) painted_acts l.final l.acts (ap is_told l.settled) in
+        cc

@@ -1,6 +1,7 @@
--- Reports that are no runs of their script: pulses don't rise, come before the frame of the one before them, or have no frame.
+-- Reports that are no runs of their script: pulses don't rise, come at another time than their own or before the frame of the one before them, or have no frame.
 use Rattle.std.proofs.Common.{◌≡◌, ℕ, Bool, true, Option, List, [], ◌∷◌, ◌++◌, Some, None, refl}
 use Rattle.std.specs.List.{AllByRecursion}
+use Rattle.std.specs.Prelude.{map}
 use Rattle.loop_model.specs.declared.call.Call.TheVariants as call
 use Rattle.loop_model.specs.declared.reply.Reply.TheVariants as reply
 use Rattle.loop_model.specs.declared.journal.Act.TheVariants as act
@@ -8,10 +9,11 @@ use Rattle.frame_phases.specs.declared.entry.FrameEntry.{FrameEntry}
 use Rattle.frame_phases.specs.declared.entry.FrameEntry.TheVariants as frame
 use Rattle.dash_script.specs.declared.script.Command.TheVariants as command
 use Rattle.dash_script.specs.declared.script.Script.{Script}
-use Rattle.run_model.specs.Planned.{history_of}
+use Rattle.run_model.specs.Planned.{history_of, looper_sender}
+use Rattle.run_model.specs.Control.{befores, are_on_time}
 use Rattle.run_model.specs.Moments.{in_lockstep}
-use Rattle.run_model.specs.Loopers.{first_looper, has_frames}
-use Rattle.run_model.specs.Run.{IsRun}
+use Rattle.run_model.specs.Loopers.{LooperState, first_looper, has_frames}
+use Rattle.run_model.specs.Run.{IsRun, caused_on}
 use Rattle.run_model.proofs.Examples.{entry, frame_message, handler_on, block, by, plain_script, callback}
 use Rattle.run_model.proofs.RunBut as but
 use Rattle.run_model.proofs.Table.{Row, queue_in, report_of, computing}
@@ -40,20 +42,24 @@ twice = record {
   disposed_at = 0;
 }
 
--- a frame at 34 for the pulse with this stamp, which runs these callbacks
-abbrev frame_at_34 : ℕ → List FrameEntry → List FrameEntry
-frame_at_34 stamp ran = frame.Begin stamp 34000000 33333334 ∷ frame.Take 0 34000000 33333334 ∷ ran ++ frame.Take 1 34000000 33333334 ∷ frame.Take 2 34000000 33333334
-    ∷ frame.Take 3 34000000 33333334 ∷ []
+-- a frame at 34 for the pulse with this stamp and of this time, which runs these callbacks
+abbrev frame_at_34 : ℕ → ℕ → List FrameEntry → List FrameEntry
+frame_at_34 stamp time ran =
+    frame.Begin stamp 34000000 time ∷ frame.Take 0 34000000 time ∷ ran ++ frame.Take 1 34000000 time ∷ frame.Take 2 34000000 time ∷ frame.Take 3 34000000 time ∷ []
 
--- the pulse of 33333334 comes before that of 16666667, both at 34, and each starts a frame
+-- a period of half a millisecond, so that two pulses have one millisecond
+abbrev two_a_millisecond : Script
+two_a_millisecond = record (one_callback 40) { period = 500000 }
+
+-- the pulse of 34000000 comes before that of 33500000, both at 34, and each starts a frame
 abbrev backwards : Row
 backwards = record {
   entries = entry 2 0 (call.Advance 10) reply.Advanced ∷ entry 2 1 (call.Advance 34) reply.Advanced
-      ∷ entry 1 0 (call.Post (frame_message 0 33 None)) (reply.Accepted 0) ∷ entry 1 1 (call.Next 34) (reply.Dispatched 0)
-      ∷ entry 1 2 (call.Post (frame_message 0 16 None)) (reply.Accepted 1) ∷ entry 1 3 (call.Next 34) (reply.Dispatched 1)
+      ∷ entry 1 0 (call.Post (frame_message 0 34 None)) (reply.Accepted 0) ∷ entry 1 1 (call.Next 34) (reply.Dispatched 0)
+      ∷ entry 1 2 (call.Post (frame_message 0 33 None)) (reply.Accepted 1) ∷ entry 1 3 (call.Next 34) (reply.Dispatched 1)
       ∷ entry 2 2 (call.Advance 40) reply.Advanced ∷ entry 2 3 (call.Halt 40) reply.Halted ∷ [];
-  acts = act.Vsync 33333334 ∷ dispatch 0 34 ∷ act.Vsync 16666667 ∷ dispatch 1 34 ∷ [];
-  frames = frame.Posted (callback 0 0 10 8) ∷ frame_at_34 33333334 (frame.Ran 0 ∷ []) ++ frame_at_34 16666667 [];
+  acts = act.Vsync 34000000 ∷ dispatch 0 34 ∷ act.Vsync 33500000 ∷ dispatch 1 34 ∷ [];
+  frames = frame.Posted (callback 0 0 10 8) ∷ frame_at_34 34000000 34000000 (frame.Ran 0 ∷ []) ++ frame_at_34 33500000 34000000 [];
   places = None ∷ Some 1 ∷ None ∷ Some 7 ∷ [];
   disposed_at = 0;
 }
@@ -62,10 +68,10 @@ backwards = record {
 abbrev both_first : List FrameEntry → List (Option ℕ) → Row
 both_first frames places = record {
   entries = entry 2 0 (call.Advance 10) reply.Advanced ∷ entry 2 1 (call.Advance 34) reply.Advanced
-      ∷ entry 1 0 (call.Post (frame_message 0 16 None)) (reply.Accepted 0) ∷ entry 1 1 (call.Post (frame_message 0 33 None)) (reply.Accepted 1)
+      ∷ entry 1 0 (call.Post (frame_message 0 33 None)) (reply.Accepted 0) ∷ entry 1 1 (call.Post (frame_message 0 34 None)) (reply.Accepted 1)
       ∷ entry 1 2 (call.Next 34) (reply.Dispatched 0) ∷ entry 1 3 (call.Next 34) (reply.Dispatched 1)
       ∷ entry 2 2 (call.Advance 40) reply.Advanced ∷ entry 2 3 (call.Halt 40) reply.Halted ∷ [];
-  acts = act.Vsync 16666667 ∷ act.Vsync 33333334 ∷ dispatch 0 34 ∷ dispatch 1 34 ∷ [];
+  acts = act.Vsync 33500000 ∷ act.Vsync 34000000 ∷ dispatch 0 34 ∷ dispatch 1 34 ∷ [];
   frames = frame.Posted (callback 0 0 10 8) ∷ frames;
   places = None ∷ None ∷ places;
   disposed_at = 0;
@@ -76,7 +82,7 @@ not_rising =
     -- one pulse is delivered twice
     faulty but.Rising (one_callback 20) (twice ∷ [])
     -- pulses come out of order
-    ∷ faulty but.Rising (one_callback 40) (backwards ∷ [])
+    ∷ faulty but.Rising two_a_millisecond (backwards ∷ [])
     ∷ []
 
 pub not_rising_fail : AllByRecursion Fails not_rising
@@ -86,9 +92,9 @@ not_rising_fail = each_fails main_tells_asked told_by_run not_rising refl refl
 abbrev not_awaited : List Faulty
 not_awaited =
     -- a pulse comes before the frame of the one before it has begun: the second frame message runs no frame
-    faulty but.Awaited (one_callback 40) (both_first (frame_at_34 33333334 (frame.Ran 0 ∷ [])) (Some 1 ∷ None ∷ []) ∷ [])
+    faulty but.Awaited two_a_millisecond (both_first (frame_at_34 34000000 34000000 (frame.Ran 0 ∷ [])) (Some 1 ∷ None ∷ []) ∷ [])
     -- or it runs one more frame for the same pulse
-    ∷ faulty but.Awaited (one_callback 40) (both_first (frame_at_34 33333334 (frame.Ran 0 ∷ []) ++ frame_at_34 33333334 []) (Some 1 ∷ Some 7 ∷ []) ∷ [])
+    ∷ faulty but.Awaited two_a_millisecond (both_first (frame_at_34 34000000 34000000 (frame.Ran 0 ∷ []) ++ frame_at_34 34000000 34000000 []) (Some 1 ∷ Some 7 ∷ []) ∷ [])
     ∷ []
 
 pub not_awaited_fail : AllByRecursion Fails not_awaited
@@ -118,7 +124,7 @@ unframed =
           ∷ entry 1 2 (call.Post (frame_message 0 33 None)) (reply.Accepted 1) ∷ entry 1 3 (call.Next 34) (reply.Dispatched 1)
           ∷ entry 2 3 (call.Advance 40) reply.Advanced ∷ entry 2 4 (call.Halt 40) reply.Halted ∷ [];
       acts = act.Vsync 16666667 ∷ dispatch 0 17 ∷ act.Vsync 33333334 ∷ dispatch 1 34 ∷ [];
-      frames = frame.Posted (callback 0 0 10 8) ∷ frame_at_34 33333334 (frame.Ran 0 ∷ []);
+      frames = frame.Posted (callback 0 0 10 8) ∷ frame_at_34 33333334 33333334 (frame.Ran 0 ∷ []);
       places = None ∷ None ∷ None ∷ Some 1 ∷ [];
       disposed_at = 0;
     } ∷ [])
@@ -137,3 +143,62 @@ unframed =
 pub unframed_fail : AllByRecursion Fails unframed
 unfolding computing
 unframed_fail = each_fails has_main_frames framed_by_run unframed refl refl
+
+-- ---- a pulse before or behind its millisecond
+
+-- main's calls on its queue are on time by something that its acts may lead to
+abbrev calls_on_time : Script → Row → LooperState → Bool
+calls_on_time s row b = are_on_time (map (λ x. x.timing) (caused_on 0 b 0 0)) (befores (looper_sender s 0) (history_of (queue_in s 0 row)))
+
+abbrev is_main_on_time : Script → List Row → Bool
+is_main_on_time s [] = true
+is_main_on_time s (row ∷ rows) = any_led (calls_on_time s row) s 0 (history_of (queue_in s 0 row)) row.frames (first_looper s) row.acts
+
+on_time_by_run : (s : Script) (rows : List Row) → IsRun in_lockstep s (report_of s rows) → is_main_on_time s rows ≡ true
+on_time_by_run s [] r = refl
+on_time_by_run s (row ∷ rows) r =
+    let l = r.loopers.0 in led_passes (calls_on_time s row) s 0 (history_of (queue_in s 0 row)) row.frames (first_looper s) row.acts l.final l.acts l.on_time.0
+
+abbrev early_pulses : List Faulty
+early_pulses =
+    -- the pulse of 16666667 comes at 16, the time of a block
+    faulty but.OnTime (plain_script 1 1 (handler_on 0 ∷ []) (block 10 (by 0 (command.Frame 0 0 8 0) ∷ []) ∷ block 16 [] ∷ []) 20) (record {
+      entries = entry 2 0 (call.Advance 10) reply.Advanced ∷ entry 2 1 (call.Advance 16) reply.Advanced
+          ∷ entry 1 0 (call.Post (frame_message 0 16 None)) (reply.Accepted 0) ∷ entry 1 1 (call.Next 16) (reply.Dispatched 0)
+          ∷ entry 2 2 (call.Advance 20) reply.Advanced ∷ entry 2 3 (call.Halt 20) reply.Halted ∷ [];
+      acts = act.Vsync 16666667 ∷ dispatch 0 16 ∷ [];
+      frames = frame.Posted (callback 0 0 10 8) ∷ frame.Begin 16666667 16000000 16000000 ∷ frame.Take 0 16000000 16000000 ∷ frame.Ran 0
+          ∷ frame.Take 1 16000000 16000000 ∷ frame.Take 2 16000000 16000000 ∷ frame.Take 3 16000000 16000000 ∷ [];
+      places = None ∷ Some 1 ∷ [];
+      disposed_at = 0;
+    } ∷ [])
+    ∷ []
+
+pub early_pulses_fail : AllByRecursion Fails early_pulses
+unfolding computing
+early_pulses_fail = each_fails is_main_on_time on_time_by_run early_pulses refl refl
+
+-- the pulse of 16666667 comes at this time, in milliseconds and in nanoseconds, and the frame that it starts has this time
+abbrev come_late : ℕ → ℕ → ℕ → Row
+come_late now nanos time = record {
+  entries = entry 2 0 (call.Advance 10) reply.Advanced ∷ entry 2 1 (call.Advance now) reply.Advanced
+      ∷ entry 1 0 (call.Post (frame_message 0 16 None)) (reply.Accepted 0) ∷ entry 1 1 (call.Next now) (reply.Dispatched 0)
+      ∷ entry 2 2 (call.Advance 40) reply.Advanced ∷ entry 2 3 (call.Halt 40) reply.Halted ∷ [];
+  acts = act.Vsync 16666667 ∷ dispatch 0 now ∷ [];
+  frames = frame.Posted (callback 0 0 10 8) ∷ frame.Begin 16666667 nanos time ∷ frame.Take 0 nanos time ∷ frame.Ran 0 ∷ frame.Take 1 nanos time
+      ∷ frame.Take 2 nanos time ∷ frame.Take 3 nanos time ∷ [];
+  places = None ∷ Some 1 ∷ [];
+  disposed_at = 0;
+}
+
+abbrev late_pulses : List Faulty
+late_pulses =
+    -- the pulse of 16666667 comes at 18, the time of a block
+    faulty but.OnTime (plain_script 1 1 (handler_on 0 ∷ []) (block 10 (by 0 (command.Frame 0 0 8 0) ∷ []) ∷ block 18 [] ∷ []) 40) (come_late 18 18000000 16666667 ∷ [])
+    -- it comes at the time of the next one
+    ∷ faulty but.OnTime (one_callback 40) (come_late 34 34000000 33333334 ∷ [])
+    ∷ []
+
+pub late_pulses_fail : AllByRecursion Fails late_pulses
+unfolding computing
+late_pulses_fail = each_fails is_main_on_time on_time_by_run late_pulses refl refl

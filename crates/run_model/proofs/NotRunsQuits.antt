@@ -1,5 +1,5 @@
 -- Reports that are no runs of their script: the controller calls a side looper's queue at a wrong time.
-use Rattle.std.proofs.Common.{ℕ, refl, true, false, List, [], ◌∷◌, None}
+use Rattle.std.proofs.Common.{◌≡◌, ℕ, refl, true, false, List, [], ◌∷◌, None}
 use Rattle.std.specs.List.{AllByRecursion}
 use Rattle.loop_model.specs.declared.call.Call.TheVariants as call
 use Rattle.loop_model.specs.declared.reply.Reply.{Reply}
@@ -13,7 +13,7 @@ use Rattle.dash_script.specs.declared.script.Script.{Script}
 use Rattle.run_model.proofs.Examples.{entry, halted_at, handler_on, block, by, plain_script, message}
 use Rattle.run_model.proofs.RunBut as but
 use Rattle.run_model.proofs.Table.{Row, acting, quiet, computing}
-use Rattle.run_model.proofs.OneFault.{Faulty, faulty, Fails, each_untimely}
+use Rattle.run_model.proofs.OneFault.{FailsBy, fails_by, Faulty, faulty, Fails, each_untimely}
 
 -- a script whose thread does this to the side looper at this time, and ends at 10
 abbrev pub side_script : ℕ → Command → Script
@@ -61,3 +61,15 @@ wrong_controls =
 pub wrong_controls_fail : AllByRecursion Fails wrong_controls
 unfolding computing
 wrong_controls_fail = each_untimely wrong_controls refl refl
+
+-- a message is posted for a time behind the end
+abbrev later_script : Script
+later_script = side_script 10 (command.Post 1 7 5)
+
+abbrev plain_quit : List Row
+plain_quit = side_rows (quiet (side_advance 0 10 ∷ side_post 15 (reply.Accepted 0) ∷ entry 3 1 (call.Quit false 10) reply.QuitDone ∷ disposal 0 10 ∷ []) 10)
+
+-- the controller quits the side looper, and not safely
+pub quits_plainly : FailsBy but.Controlled later_script plain_quit
+unfolding computing
+quits_plainly = fails_by but.Controlled later_script plain_quit (λ r. let controlled : false ≡ true = r.controls.1.0 in cc) refl

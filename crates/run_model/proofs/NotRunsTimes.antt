@@ -1,6 +1,7 @@
--- Reports that are no runs of their script: calls that come too early, too late or in another order.
-use Rattle.std.proofs.Common.{◌≡◌, ℕ, refl, true, false, List, [], ◌∷◌, Some, None, sym, ap, subst, arith}
-use Rattle.std.specs.Prelude.{map}
+-- Reports that are no runs of their script: calls that come too early, too late, too often or in another order.
+use Rattle.std.proofs.Common.{◌≡◌, ℕ, Bool, refl, true, false, List, [], ◌∷◌, ◌++◌, Some, None, sym, ap, subst, arith, length}
+use Rattle.std.specs.Prelude.{map, ◌==◌}
+use Rattle.std.proofs.lemmas.Bool.Decides.{nat_tests}
 use Rattle.std.specs.List.{AllByRecursion}
 use Rattle.loop_model.specs.declared.call.Call.TheVariants as call
 use Rattle.loop_model.specs.declared.reply.Reply.TheVariants as reply
@@ -11,12 +12,14 @@ use Rattle.dash_script.specs.declared.script.Command.TheVariants as command
 use Rattle.dash_script.specs.declared.script.Script.{Script}
 use Rattle.run_model.specs.Moments.{in_lockstep}
 use Rattle.run_model.specs.Control.{befores, are_on_time}
-use Rattle.run_model.specs.Loopers.{LooperState, first_looper, after_act, ActsLead}
+use Rattle.run_model.specs.Planned.{AreFor, entries_by, token_in}
+use Rattle.run_model.specs.Loopers.{LooperState, first_looper, after_act, ActsLead, IsSent}
 use Rattle.run_model.specs.Run.{IsRun, caused_on}
 use Rattle.run_model.proofs.Examples.{entry, handler_on, block, by, plain_script, message}
 use Rattle.run_model.proofs.RunBut as but
 use Rattle.run_model.proofs.Table.{Row, acting, quiet, report_of, computing}
 use Rattle.run_model.proofs.OneFault.{FailsBy, fails_by, Faulty, faulty, Fails, each_untimely}
+use Rattle.run_model.proofs.Led.{led_passes}
 use Rattle.run_model.proofs.NotRuns.{dispatch, advance, look}
 use Rattle.run_model.proofs.NotRunsEnds.{quits_side, posts_side, quit_script}
 
@@ -74,6 +77,36 @@ late_by_acts b (None, (first, (None, (may, is)))) on_time = let late : false ≡
 pub reacts_late : FailsBy but.OnTime rule_script (main_rows reacted_entries reacted_acts)
 unfolding computing
 reacts_late = fails_by but.OnTime rule_script (main_rows reacted_entries reacted_acts) (λ r. late_by_acts r.loopers.0.final r.loopers.0.acts r.loopers.0.on_time.0) refl
+
+abbrev twice_entries : List Entry
+twice_entries =
+    advance 0 10 ∷ post 10 ∷ look 0 10 0 ∷ entry 1 1 (call.Post (message 0 8 15 None)) (reply.Accepted 1)
+    ∷ entry 1 2 (call.Post (message 0 8 15 None)) (reply.Accepted 2) ∷ advance 1 15 ∷ look 3 15 1 ∷ look 4 15 2 ∷ halt 2 15 ∷ []
+
+abbrev twice_acts : List Act
+twice_acts = dispatch 0 10 ∷ dispatch 1 15 ∷ dispatch 2 15 ∷ []
+
+-- there are as many calls as these acts cause
+as_many : {X : Type 0} (IsFor : List ℕ → X → Entry → Type 0) (tokens : List ℕ) (xs : List X) (es : List Entry) → AreFor IsFor tokens xs es → (length xs == length es) ≡ true
+as_many IsFor tokens [] [] all = refl
+as_many IsFor tokens [] (e ∷ es) all = absurd all
+as_many IsFor tokens (x ∷ xs) [] all = absurd all
+as_many IsFor tokens (x ∷ xs) (e ∷ es) all = let rest = as_many IsFor (tokens ++ token_in e.reply) xs es all.1 in grind (arith, nat_tests)
+
+abbrev calls_as_often : LooperState → Bool
+calls_as_often b = length (caused_on 0 b 0 0) == length (entries_by 1 twice_entries)
+
+-- a rule that fires once sends its message twice
+pub reacts_twice : FailsBy but.Takes rule_script (main_rows twice_entries twice_acts)
+unfolding computing
+reacts_twice = fails_by but.Takes rule_script (main_rows twice_entries twice_acts) no_run refl
+  where
+    no_run : IsRun in_lockstep rule_script (report_of rule_script (main_rows twice_entries twice_acts)) → ⊥
+    no_run r =
+        let l = r.loopers.0 in
+        let wrong : false ≡ true = led_passes calls_as_often rule_script 0 twice_entries [] (first_looper rule_script) twice_acts l.final l.acts
+        (as_many IsSent [] (caused_on 0 l.final 0 0) (entries_by 1 twice_entries) l.calls.0) in
+        cc
 
 -- thread 1 quits the side looper and then posts to it, and later thread 0 posts to it
 abbrev order_script : Script

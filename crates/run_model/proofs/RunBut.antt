@@ -68,6 +68,14 @@ pub data Clause : Type 0 where
   Awaited : Clause
   -- each pulse whose message is taken has its frame
   Framed : Clause
+  -- a choreographer's record is lawful
+  Lawful : Clause
+  -- what is painted at the end is told
+  Settled : Clause
+  -- the controller's calls are its own
+  Controlled : Clause
+  -- main ends with its Halt
+  Halted : Clause
 
 abbrev pub number_of : Clause → ℕ
 number_of Nothing = 0
@@ -90,6 +98,10 @@ number_of InTurn = 16
 number_of Rising = 17
 number_of Awaited = 18
 number_of Framed = 19
+number_of Lawful = 20
+number_of Settled = 21
+number_of Controlled = 22
+number_of Halted = 23
 
 -- this is so, unless it is the clause that is left out
 abbrev pub Unless : Clause → Clause → Type 0 → Type 0
@@ -148,7 +160,7 @@ with_stamps _ fs = fs
 pub record IsLooperRunBut (out : Clause) (s : Script) (queues : List QueueRecord) (q : QueueRecord) (j : Journal) (f : FrameRecord) : Type 0 where
   pub final : LooperState
   pub acts : LeadBut out (with_pulses out s) q.looper (history_of q) (with_stamps out f.entries) (first_looper s) j.acts final
-  pub settled : final.painted ≡ []
+  pub settled : Unless out Settled (final.painted ≡ [])
   pub dispatches : Unless out Takes (filter_map act_dispatch j.acts ≡ filter_map (λ e. call_dispatch e.call e.reply) (entries_by (looper_sender s q.looper) (history_of q)))
   pub disposed_at : ℕ
   pub calls : Unless out Takes (AllByRecursion (λ (r : QueueRecord). AreFor IsSent [] (caused_on r.looper final q.looper disposed_at) (entries_by (looper_sender s q.looper) (history_of r))) queues)
@@ -162,7 +174,7 @@ pub record IsLooperRunBut (out : Clause) (s : Script) (queues : List QueueRecord
 pub record IsFrameRunBut (out : Clause) (s : Script) (f : FrameRecord) : Type 0 where
   pub interval : f.interval ≡ s.period
   pub phases : f.phases ≡ phase_count s.edition
-  pub lawful : lawful f.interval f.phases f.entries ≡ true
+  pub lawful : Unless out Lawful (lawful f.interval f.phases f.entries ≡ true)
   pub stamps : Unless out (Stamps 0) (Unless out Pulses (are_stamped f.interval f.entries ≡ true))
 
 -- a timely history, but for the clause that is left out
@@ -182,10 +194,10 @@ pub record IsRunBut (out : Clause) (s : Script) (r : Report) : Type 0 where
   pub report : IsReportOf s r
   pub records : AreRecordsOf in_lockstep all_entries s r
   pub planned : AllByRecursion (IsAsPlanned in_lockstep s) r.queues
-  pub controls : AllByRecursion (IsControlled s) r.queues
+  pub controls : AllByRecursion (λ (q : QueueRecord). Unless out Controlled (IsControlled s q)) r.queues
   pub frames : AllByRecursion (IsFrameRunBut out s) r.frames
   pub loopers : EachLooper (IsLooperRunBut out s r.queues) r.queues r.journals r.frames
-  pub halted : main_ends_halted r.queues ≡ true
+  pub halted : Unless out Halted (main_ends_halted r.queues ≡ true)
   pub histories : AllByRecursion (IsTimelyBut out s) r.queues
   pub moved : AreMovedBut out s (map (λ q. moves (controller s) (history_of q)) r.queues)
 

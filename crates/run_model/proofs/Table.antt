@@ -42,7 +42,7 @@ use Rattle.run_model.proofs.Below.{EachBelow, each_below}
 use Rattle.run_model.proofs.Parting.{can_ask_in_turn, asks_are_in_turn}
 use Rattle.run_model.proofs.ByTests.{answers, replies, are_timely, are_numbered, history_by, planned_calls, made_calls, thread_lines, MakesThem, calls_by}
 use Rattle.run_model.proofs.Examples.{queue, journal, page, handler_on, plain_script}
-use Rattle.run_model.proofs.RunBut.{Clause, Nothing, Asked, Stamps, Whole, Moments, Starts, Pulses, OnTime, Takes, Controls, BeforeQuit, Threads, Order, Blocks, Due, Together, Awaited, Framed, number_of, Unless, with_pulses, with_stamps, made_but, before_act, LeadBut, IsFrameRunBut, IsLooperRunBut, IsTimelyBut, AreMovedBut, IsRunBut}
+use Rattle.run_model.proofs.RunBut.{Clause, Nothing, Asked, Stamps, Whole, Moments, Starts, Pulses, OnTime, Takes, Controls, BeforeQuit, Threads, Order, Blocks, Due, Together, Awaited, Framed, Lawful, Settled, Controlled, Halted, number_of, Unless, with_pulses, with_stamps, made_but, before_act, LeadBut, IsFrameRunBut, IsLooperRunBut, IsTimelyBut, IsRunBut}
 use Rattle.run_model.proofs.RunBut as but
 
 -- ---- a report as data
@@ -320,11 +320,11 @@ found_in out s queues n row =
       timely = are_timely (record_setting q) (empty_base q.senders) [] es;
       numbered = are_numbered (record_setting q) (empty_base q.senders) [] es;
       planned = down_from s.threads (λ thread. planned_calls s (labels_on n (lines_of thread s.blocks)) n [] (thread_lines s n thread) (entries_by thread es));
-      controlled = is_controlled q.main q.lockstep (controller s) s.end es;
-      lawful = lawful s.period (phase_count s.edition) row.frames;
+      controlled = unless out Controlled (is_controlled q.main q.lockstep (controller s) s.end es);
+      lawful = unless out Lawful (lawful s.period (phase_count s.edition) row.frames);
       acts = acts_may out (with_pulses out s) n es (with_stamps out row.frames) row.places (first_looper s) row.acts;
       painted = acts_paint out (with_pulses out s) n es (with_stamps out row.frames) row.places (first_looper s) row.acts;
-      left = final.painted;
+      left = kept out Settled final.painted;
       dispatches = kept out Takes (filter_map act_dispatch row.acts);
       calls = kept out Takes (map (λ r. entries_for [] (caused_by out s n row r) (entries_there s n r)) queues);
       stamps = unless out (Stamps 0) (unless out Pulses (are_stamped s.period row.frames));
@@ -352,7 +352,7 @@ wanted_in out s queues n row =
       lawful = true;
       acts = true;
       painted = acts_painted out (with_pulses out s) n es (with_stamps out row.frames) row.places (first_looper s) row.acts;
-      left = [];
+      left = kept out Settled [];
       dispatches = kept out Takes (filter_map (λ e. call_dispatch e.call e.reply) (entries_there s n (queue_in s n row)));
       calls = kept out Takes (map (λ r. map plain_entry (entries_there s n r)) queues);
       stamps = true;
@@ -371,7 +371,7 @@ wanted_in out s queues n row =
 record IsLooperOf (out : Clause) (s : Script) (queues : List QueueRecord) (n : ℕ) (row : Row) : Type 0 where
   history : IsRecordOf in_lockstep all_entries s (queue_in s n row)
   planned : IsAsPlanned in_lockstep s (queue_in s n row)
-  controlled : IsControlled s (queue_in s n row)
+  controlled : Unless out Controlled (IsControlled s (queue_in s n row))
   frames : IsFrameRunBut out s (frames_in s n row)
   looper : IsLooperRunBut out s queues (queue_in s n row) (journal n row.acts) (frames_in s n row)
   timely : IsTimelyBut out s (queue_in s n row)
@@ -391,17 +391,17 @@ looper_of out s queues n row e =
     record {
       history = history_by s q refl refl refl (refl, tt) (ap (λ (t : LooperTest). t.replies) e) (ap (λ (t : LooperTest). t.timely) e) (ap (λ (t : LooperTest). t.numbered) e);
       planned = all_planned s q (down_same s.threads (λ thread. planned_calls s (labels_on n (lines_of thread s.blocks)) n [] (thread_lines s n thread) (entries_by thread es)) (λ thread. made_calls (entries_by thread es)) (ap (λ (t : LooperTest). t.planned) e));
-      controlled = ap (λ (t : LooperTest). t.controlled) e;
+      controlled = unless_true (number_of out == number_of Controlled) _ _ (λ h. h) (ap (λ (t : LooperTest). t.controlled) e);
       frames = record {
         interval = refl;
         phases = refl;
-        lawful = ap (λ (t : LooperTest). t.lawful) e;
+        lawful = unless_true (number_of out == number_of Lawful) _ _ (λ h. h) (ap (λ (t : LooperTest). t.lawful) e);
         stamps = both_left (number_of out == number_of (Stamps 0)) (number_of out == number_of Pulses) _ _ (λ h. h) (ap (λ (t : LooperTest). t.stamps) e);
       };
       looper = record {
         final = final;
         acts = leads out (with_pulses out s) n es (with_stamps out row.frames) row.places (first_looper s) row.acts (ap (λ (t : LooperTest). t.acts) e) (ap (λ (t : LooperTest). t.painted) e);
-        settled = ap (λ (t : LooperTest). t.left) e;
+        settled = kept_same (number_of out == number_of Settled) final.painted [] _ (λ same. same) (ap (λ (t : LooperTest). t.left) e);
         dispatches = kept_same (number_of out == number_of Takes) (filter_map act_dispatch row.acts) (filter_map (λ x. call_dispatch x.call x.reply) (entries_there s n q)) _ (λ same. same) (ap (λ (t : LooperTest). t.dispatches) e);
         disposed_at = row.disposed_at;
         calls = kept_same (number_of out == number_of Takes) (map (λ r. entries_for [] (caused_by out s n row r) (entries_there s n r)) queues) (map (λ r. map plain_entry (entries_there s n r)) queues) _
@@ -471,7 +471,7 @@ found out s rows =
     record {
       numbers = map (λ q. q.looper) (queues_from s 0 rows) ∷ map (λ j. j.looper) (journals_from 0 rows) ∷ map (λ f. f.looper) (frames_from s 0 rows) ∷ [];
       loopers = each_from (found_in out s (queues_from s 0 rows)) 0 rows;
-      halted = main_ends_halted (queues_from s 0 rows);
+      halted = unless out Halted (main_ends_halted (queues_from s 0 rows));
       due = unless out Due (list_all (may_move s all) (enumerate_from 0 (move_times (main_moves all))));
       together = kept out Together (map (with_main (main_moves all)) all);
     }
@@ -533,10 +533,10 @@ run_but_by out s rows e =
       };
       records = record { mode = refl; start = refl; histories = of_queues P s (IsRecordOf in_lockstep all_entries s) (λ n row l. l.history) 0 rows each };
       planned = of_queues P s (IsAsPlanned in_lockstep s) (λ n row l. l.planned) 0 rows each;
-      controls = of_queues P s (IsControlled s) (λ n row l. l.controlled) 0 rows each;
+      controls = of_queues P s (λ (q : QueueRecord). Unless out Controlled (IsControlled s q)) (λ n row l. l.controlled) 0 rows each;
       frames = of_frames P s (IsFrameRunBut out s) (λ n row l. l.frames) 0 rows each;
       loopers = of_loopers P s (IsLooperRunBut out s queues) (λ n row l. l.looper) 0 rows each;
-      halted = ap (λ (t : Test). t.halted) e;
+      halted = unless_true (number_of out == number_of Halted) _ _ (λ h. h) (ap (λ (t : Test). t.halted) e);
       histories = of_queues P s (IsTimelyBut out s) (λ n row l. l.timely) 0 rows each;
       moved = record {
         due = unless_true (number_of out == number_of Due) _ _ (λ h. all_by (λ (number, t). MayMoveTo s all number t) (may_move s all) (moves_may s all) (enumerate_from 0 (move_times (main_moves all))) h) (ap (λ (t : Test). t.due) e);

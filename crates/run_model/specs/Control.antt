@@ -113,6 +113,8 @@ pub data Timing : Type 0 where
   At : (time : ℕ) → Timing
   -- at this time and before the queue is disposed of, or after it was disposed of at an earlier time
   InBlock : (time : ℕ) → Timing
+  -- at this time
+  Exactly : (time : ℕ) → Timing
   -- at this time or later
   NotBefore : (time : ℕ) → Timing
 
@@ -120,6 +122,7 @@ pub data Timing : Type 0 where
 abbrev pub is_on_time : Timing → Before → Bool
 is_on_time (At time) b = b.clock == time || b.disposed && nat_le b.clock time
 is_on_time (InBlock time) b = if b.disposed then nat_lt b.clock time else b.clock == time
+is_on_time (Exactly time) b = b.clock == time
 is_on_time (NotBefore time) b = nat_le time b.clock
 
 abbrev pub are_on_time : List Timing → List Before → Bool

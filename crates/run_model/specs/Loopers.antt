@@ -20,7 +20,7 @@ use Rattle.run_model.specs.FrameRecords.{TimedAsk, asked_in_rounds, lines_ask_th
 use Rattle.run_model.specs.FrameRecords.{place_after, frames_after, Runs, nanos_of}
 use Rattle.run_model.specs.Planned.{Ask, Makes, Unbars, bare_call, call_of, looper_of, gauge_line, gauge_looper, frame_handler, animation_id, animation_phase}
 use Rattle.run_model.specs.Planned.{traversal_id, traversal_phase, sent_by, frame_due, frame_message, lines_of}
-use Rattle.run_model.specs.Control.{Timing, At, NotBefore}
+use Rattle.run_model.specs.Control.{Timing, At, Exactly, NotBefore}
 
 pub record GaugeState : Type 0 where
   pub value : ℕ
@@ -174,7 +174,7 @@ dispatched s q fs frame n now a (Some m) = after_dispatch s q now (frame_ids fs 
 unfoldable pub after_act : Script → ℕ → List Entry → List FrameEntry → Option ℕ → LooperState → Act → LooperState
 after_act s q es fs frame a (Dispatch n now route) = record (dispatched s q fs frame n now a (post_at es n)) { painted = [] }
 after_act s q es fs frame a (Vsync stamp) = record a {
-  sent = a.sent ++ record { queue = q; ask = Makes (Post (frame_message q 0 0 (stamp / 1000000))); reply = None; timing = NotBefore (millis_up stamp) } ∷ [];
+  sent = a.sent ++ record { queue = q; ask = Makes (Post (frame_message q 0 0 (stamp / 1000000))); reply = None; timing = Exactly (millis_up stamp) } ∷ [];
   stamp = stamp;
   awaits = true;
 }

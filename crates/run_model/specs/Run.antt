@@ -115,12 +115,13 @@ pub record IsTimely (s : Script) (r : QueueRecord) : Type 0 where
       (befores thread (history_of r)) ≡ true
   pub in_order : are_in_order s r.looper (history_of r) ≡ true
 
--- part 6 of a run: main ends with its Halt, the threads' calls come before the controller's quits, and in lockstep each history is timely and all queues' times
--- are moved together, to times at which something may come
+-- whether main's queue, the first, ends with its Halt
 abbrev pub main_ends_halted : List QueueRecord → Bool
 main_ends_halted [] = false
 main_ends_halted (q ∷ qs) = ends_halted (history_of q)
 
+-- part 6 of a run: main ends with its Halt, the threads' calls come before the controller's quits, and in lockstep each history is timely and all queues' times
+-- are moved together, to times at which something may come
 pub record AreTimelyOf (m : Mode) (s : Script) (r : Report) : Type 0 where
   pub halted : main_ends_halted r.queues ≡ true
   pub before_quit : AllByRecursion (λ (q : QueueRecord). are_before_quit s.threads (controller s) (history_of q) ≡ true) r.queues

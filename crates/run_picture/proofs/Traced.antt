@@ -9,8 +9,8 @@ use Rattle.serde_json.proofs.Views.{view-Array}
 use Rattle.run_picture.specs.declared.report.Looper.{Looper}
 use Rattle.run_picture.specs.declared.report.Report.{Report}
 use Rattle.run_picture.specs.declared.mark.Mark.{Mark}
-use Rattle.run_picture.specs.declared.mark.Kind.{Kind}
-use Rattle.run_picture.specs.declared.mark.Kind.TheVariants.{Dispatch, Frame, Run, Paint}
+use Rattle.run_picture.specs.declared.mark.MarkKind.{MarkKind}
+use Rattle.run_picture.specs.declared.mark.MarkKind.TheVariants.{Dispatch, Frame, Run, Paint}
 use Rattle.run_picture.specs.Marks.{marks}
 use Rattle.run_picture.specs.Events.{event, process, thread, threads_from, trace, kind_members, moment_members, naming}
 
@@ -37,7 +37,7 @@ thread_more ls i lane d out now v whole lt push before e =
     ∙ ap (λ x. map view out ++ threads_from lane x) (sym (drop_more ls i d lt)) ∙ before
 
 -- no event has a float
-kind_whole : (period : ℕ) (m : Mark) (k : Kind) → members_have_float (kind_members period k (moment_members m)) ≡ false
+kind_whole : (period : ℕ) (m : Mark) (k : MarkKind) → members_have_float (kind_members period k (moment_members m)) ≡ false
 unfolding kind_members moment_members
 kind_whole period m (Dispatch n handler subject) = refl
 kind_whole period m Frame = refl

@@ -9,6 +9,7 @@ use Rattle.std.proofs.lemmas.List.Concat.{flat_map-append}
 use Rattle.loop_model.proofs.Sorting.{AllByRecursion-append}
 use Rattle.line_words.specs.Answers.{Finds, FindsAll, Names}
 use Rattle.line_words.specs.Words.{words, spelled_number}
+use Rattle.line_words.specs.Written.{Long, FitsWord, spelled_words}
 use Rattle.line_words.specs.RefusedReading.{read_from, read_text}
 use Rattle.line_words.proofs.Refusing.{answer, failed}
 use Rattle.line_words.proofs.LineReading.{run, run_on, Continues, IsForm, plain_ended, plain_stopped, text_found, text_only, text_never, text_bad}
@@ -22,50 +23,50 @@ use Rattle.run_picture.specs.declared.report.Frame.{Frame as FrameData}
 use Rattle.run_picture.specs.declared.report.Looper.{Looper as LooperData}
 use Rattle.run_picture.specs.declared.report.Report.{Report}
 use Rattle.run_picture.specs.declared.report.ParsedReport.TheVariants as parsed
-use Rattle.run_picture.specs.declared.line.Line.{Line}
-use Rattle.run_picture.specs.declared.line.Line.TheVariants.{Title, Looper, Past, Fates, Act, Frame, Run, End}
+use Rattle.run_picture.specs.declared.line.ReportLine.{ReportLine}
+use Rattle.run_picture.specs.declared.line.ReportLine.TheVariants.{Title, Looper, Past, Fates, Act, Frame, Run, End}
 use Rattle.run_picture.specs.declared.draft.Part.{Part}
 use Rattle.run_picture.specs.declared.draft.Part.TheVariants as part_of
 use Rattle.run_picture.specs.declared.draft.Draft.{Draft}
-use Rattle.run_picture.specs.Text.{FitsFates, picture_frame_lines, picture_looper_lines, picture_loopers_lines, picture_lines, picture_line_words, picture_line_text, FitsReportLine, IsLeastBadOfReport, IsReportText}
+use Rattle.run_picture.specs.Text.{read_frame_lines, read_looper_lines, read_loopers_lines, read_report_lines, report_line_words, report_line_text, FitsReportLine, IsLeastBadOfReport, IsReportText}
 use Rattle.run_picture.specs.Lines.{line_of}
 use Rattle.run_picture.specs.Progress.{blank, opened, start, closed, shut, framed, with_past, with_act, with_run, after_part, after_open, next, is_report_end, report_of, reading, reports}
 use Rattle.line_words.proofs.Wording.{AreWords, words_again, words_taken, no_feed_within}
 use Rattle.run_picture.proofs.Taken.{line_taken}
 use Rattle.run_picture.proofs.Again.{line_again, line_are}
 
-abbrev AllFits : List Line → Type 0
+abbrev AllFits : List ReportLine → Type 0
 AllFits ls = AllByRecursion FitsReportLine ls
 
 -- ---- one line
 
 -- the bytes of a line, without its line feed
-abbrev bytes_of : Line → List ℕ
-bytes_of l = join_with_byte 32 (picture_line_words l)
+abbrev bytes_of : ReportLine → List ℕ
+bytes_of l = join_with_byte 32 (spelled_words (report_line_words l))
 
-fed : (l : Line) → picture_line_text l ≡ bytes_of l ++ 10 ∷ []
-unfolding picture_line_text
+fed : (l : ReportLine) → report_line_text l ≡ bytes_of l ++ 10 ∷ []
+unfolding report_line_text
 fed l = refl
 
-words_said : (l : Line) (x : List ℕ) (ws : List (List ℕ)) → picture_line_words l ≡ x ∷ ws → FitsReportLine l → line_of (words (bytes_of l)) ≡ Some l
+words_said : (l : ReportLine) (x : List ℕ) (ws : List (List ℕ)) → spelled_words (report_line_words l) ≡ x ∷ ws → FitsReportLine l → line_of (words (bytes_of l)) ≡ Some l
 words_said l x ws e fit =
     let all : AreWords (x ∷ ws) = subst AreWords e (line_are l fit) in
     ap (λ v. line_of (words (join_with_byte 32 v))) e ∙ ap line_of (words_again x ws all) ∙ ap line_of (sym e) ∙ line_again l fit
 
-past_words_are : (p : PastData) → (x : List ℕ) × (ws : List (List ℕ)) × (picture_line_words (Past p) ≡ x ∷ ws)
+past_words_are : (p : PastData) → (x : List ℕ) × (ws : List (List ℕ)) × (spelled_words (report_line_words (Past p)) ≡ x ∷ ws)
 past_words_are (past_of.Dispatch now number handler s) = (_, _, refl)
 past_words_are (past_of.Refused handler s place) = (_, _, refl)
 past_words_are (past_of.NotPosted token) = (_, _, refl)
 past_words_are past_of.NotAllowed = (_, _, refl)
 past_words_are (past_of.AlreadyQuit place) = (_, _, refl)
 
-act_words_are : (a : ActData) → (x : List ℕ) × (ws : List (List ℕ)) × (picture_line_words (Act a) ≡ x ∷ ws)
+act_words_are : (a : ActData) → (x : List ℕ) × (ws : List (List ℕ)) × (spelled_words (report_line_words (Act a)) ≡ x ∷ ws)
 act_words_are (act_of.Idle id) = (_, _, refl)
 act_words_are (act_of.Event fd events) = (_, _, refl)
 act_words_are (act_of.Paint gauge value) = (_, _, refl)
 
 -- a line has words
-some_words : (l : Line) → (x : List ℕ) × (ws : List (List ℕ)) × (picture_line_words l ≡ x ∷ ws)
+some_words : (l : ReportLine) → (x : List ℕ) × (ws : List (List ℕ)) × (spelled_words (report_line_words l) ≡ x ∷ ws)
 some_words (Title edition) = (_, _, refl)
 some_words (Looper n) = (_, _, refl)
 some_words (Past p) = past_words_are p
@@ -75,30 +76,30 @@ some_words (Frame t) = (_, _, refl)
 some_words (Run r) = (_, _, refl)
 some_words End = (_, _, refl)
 
-read_again : (l : Line) → FitsReportLine l → line_of (words (bytes_of l)) ≡ Some l
+read_again : (l : ReportLine) → FitsReportLine l → line_of (words (bytes_of l)) ≡ Some l
 read_again l fit = let w = some_words l in words_said l w.0 w.1 w.2 fit
 
 -- ---- the lines of a draft
 
 -- the loopers that have all their lines
-abbrev front_lines : Draft → List Line
-front_lines d = Title d.edition ∷ picture_loopers_lines 0 d.loopers
+abbrev front_lines : Draft → List ReportLine
+front_lines d = Title d.edition ∷ read_loopers_lines 0 d.loopers
 
 -- the looper's line, and its history
-abbrev past_lines : ℕ → LooperData → List Line
+abbrev past_lines : ℕ → LooperData → List ReportLine
 past_lines n l = Looper n ∷ map Past l.past
 
 -- all up to the looper's journal
-abbrev act_lines : ℕ → LooperData → List Line
+abbrev act_lines : ℕ → LooperData → List ReportLine
 act_lines n l = past_lines n l ++ Fates l.fates ∷ map Act l.acts
 
 -- the lines that make the draft
-abbrev so_far : Part → Draft → List Line
+abbrev so_far : Part → Draft → List ReportLine
 so_far part_of.Start d = []
 so_far part_of.Open d = front_lines d
 so_far part_of.Past d = front_lines d ++ past_lines (length d.loopers) d.current
 so_far part_of.Acts d = front_lines d ++ act_lines (length d.loopers) d.current
-so_far part_of.Frames d = front_lines d ++ picture_looper_lines (length d.loopers) (framed d.current d.frame)
+so_far part_of.Frames d = front_lines d ++ read_looper_lines (length d.loopers) (framed d.current d.frame)
 so_far part_of.End d = front_lines d ++ End ∷ []
 
 -- what is empty in a draft
@@ -111,30 +112,30 @@ IsSound part_of.Frames d = Unit {0}
 IsSound part_of.End d = Unit {0}
 
 -- one looper more
-loopers_more : (n : ℕ) (ls : List LooperData) (l : LooperData) → picture_loopers_lines n (ls ++ l ∷ []) ≡ picture_loopers_lines n ls ++ picture_looper_lines (n + length ls) l
-loopers_more n [] l = let same : n + 0 ≡ n = omega arith in append-nil (picture_looper_lines n l) ∙ ap (λ k. picture_looper_lines k l) (sym same)
+loopers_more : (n : ℕ) (ls : List LooperData) (l : LooperData) → read_loopers_lines n (ls ++ l ∷ []) ≡ read_loopers_lines n ls ++ read_looper_lines (n + length ls) l
+loopers_more n [] l = let same : n + 0 ≡ n = omega arith in append-nil (read_looper_lines n l) ∙ ap (λ k. read_looper_lines k l) (sym same)
 loopers_more n (k ∷ ls) l =
     let same : n + 1 + length ls ≡ n + suc (length ls) = omega arith in
-    ap (λ x. picture_looper_lines n k ++ x) (loopers_more (n + 1) ls l ∙ ap (λ m. picture_loopers_lines (n + 1) ls ++ picture_looper_lines m l) same)
-    ∙ sym (append_assoc (picture_looper_lines n k) (picture_loopers_lines (n + 1) ls) (picture_looper_lines (n + suc (length ls)) l))
+    ap (λ x. read_looper_lines n k ++ x) (loopers_more (n + 1) ls l ∙ ap (λ m. read_loopers_lines (n + 1) ls ++ read_looper_lines m l) same)
+    ∙ sym (append_assoc (read_looper_lines n k) (read_loopers_lines (n + 1) ls) (read_looper_lines (n + suc (length ls)) l))
 
 zero_more : (n : ℕ) → 0 + n ≡ n
 zero_more n = omega arith
 
-closed_lines : (d : Draft) → front_lines (closed d) ≡ front_lines d ++ picture_looper_lines (length d.loopers) d.current
-closed_lines d = ap (λ x. Title d.edition ∷ x) (loopers_more 0 d.loopers d.current ∙ ap (λ n. picture_loopers_lines 0 d.loopers ++ picture_looper_lines n d.current) (zero_more (length d.loopers)))
+closed_lines : (d : Draft) → front_lines (closed d) ≡ front_lines d ++ read_looper_lines (length d.loopers) d.current
+closed_lines d = ap (λ x. Title d.edition ∷ x) (loopers_more 0 d.loopers d.current ∙ ap (λ n. read_loopers_lines 0 d.loopers ++ read_looper_lines n d.current) (zero_more (length d.loopers)))
 
 -- a looper without frames has the lines up to its journal
-no_frames : (n : ℕ) (l : LooperData) → l.frames ≡ [] → picture_looper_lines n l ≡ act_lines n l
-no_frames n l none = ap (λ fs. act_lines n l ++ flat_map picture_frame_lines fs) none ∙ append-nil (act_lines n l)
+no_frames : (n : ℕ) (l : LooperData) → l.frames ≡ [] → read_looper_lines n l ≡ act_lines n l
+no_frames n l none = ap (λ fs. act_lines n l ++ flat_map read_frame_lines fs) none ∙ append-nil (act_lines n l)
 
-abbrev Grown : List Line → Line → Draft → Type 0
+abbrev Grown : List ReportLine → ReportLine → Draft → Type 0
 Grown ls l e = (ls ++ l ∷ [] ≡ so_far e.part e) × IsSound e.part e
 
-start_grows : (d e : Draft) (l : Line) → IsSound part_of.Start d → after_part part_of.Start d l ≡ Some e → Grown [] l e
+start_grows : (d e : Draft) (l : ReportLine) → IsSound part_of.Start d → after_part part_of.Start d l ≡ Some e → Grown [] l e
 start_grows d e (Title n) sound h =
     let made : Draft = record d { part = part_of.Open; edition = n } in
-    subst (Grown [] (Title n)) (same_Some made e h) (ap (λ ls. Title n ∷ picture_loopers_lines 0 ls) (sym sound.0), sound.1)
+    subst (Grown [] (Title n)) (same_Some made e h) (ap (λ ls. Title n ∷ read_loopers_lines 0 ls) (sym sound.0), sound.1)
 start_grows d e (Looper n) sound h = absurd (none-some e h)
 start_grows d e (Past p) sound h = absurd (none-some e h)
 start_grows d e (Fates f) sound h = absurd (none-some e h)
@@ -158,7 +159,7 @@ looper_grows d e n clear h =
 end_grows : (d e : Draft) → after_open d End ≡ Some e → Grown (front_lines d) End e
 end_grows d e h = let made : Draft = record d { part = part_of.End } in subst (Grown (front_lines d) End) (same_Some made e h) (refl, tt)
 
-open_grows : (d e : Draft) (l : Line) → d.current ≡ blank → after_part part_of.Open d l ≡ Some e → Grown (front_lines d) l e
+open_grows : (d e : Draft) (l : ReportLine) → d.current ≡ blank → after_part part_of.Open d l ≡ Some e → Grown (front_lines d) l e
 open_grows d e (Title n) clear h = absurd (none-some e h)
 open_grows d e (Looper n) clear h = looper_grows d e n clear h
 open_grows d e (Past p) clear h = absurd (none-some e h)
@@ -168,7 +169,7 @@ open_grows d e (Frame t) clear h = absurd (none-some e h)
 open_grows d e (Run r) clear h = absurd (none-some e h)
 open_grows d e End clear h = end_grows d e h
 
-past_grows : (d e : Draft) (l : Line) → d.part ≡ part_of.Past → IsSound part_of.Past d → after_part part_of.Past d l ≡ Some e → Grown (so_far part_of.Past d) l e
+past_grows : (d e : Draft) (l : ReportLine) → d.part ≡ part_of.Past → IsSound part_of.Past d → after_part part_of.Past d l ≡ Some e → Grown (so_far part_of.Past d) l e
 past_grows d e (Title n) is sound h = absurd (none-some e h)
 past_grows d e (Looper n) is sound h = absurd (none-some e h)
 past_grows d e (Past p) is sound h =
@@ -189,7 +190,7 @@ past_grows d e (Frame t) is sound h = absurd (none-some e h)
 past_grows d e (Run r) is sound h = absurd (none-some e h)
 past_grows d e End is sound h = absurd (none-some e h)
 
-acts_grow : (d e : Draft) (l : Line) → d.part ≡ part_of.Acts → IsSound part_of.Acts d → after_part part_of.Acts d l ≡ Some e → Grown (so_far part_of.Acts d) l e
+acts_grow : (d e : Draft) (l : ReportLine) → d.part ≡ part_of.Acts → IsSound part_of.Acts d → after_part part_of.Acts d l ≡ Some e → Grown (so_far part_of.Acts d) l e
 acts_grow d e (Title n) is sound h = absurd (none-some e h)
 acts_grow d e (Looper n) is sound h = subst (λ x. Grown x (Looper n) e) (closed_lines d ∙ ap (λ x. front_lines d ++ x) (no_frames (length d.loopers) d.current sound)) (looper_grows (closed d) e n refl h)
 acts_grow d e (Past p) is sound h = absurd (none-some e h)
@@ -205,8 +206,8 @@ acts_grow d e (Act a) is sound h =
 acts_grow d e (Frame t) is sound h =
     let made : Draft = record d { part = part_of.Frames; frame = opened t } in
     let n = length d.loopers in
-    let last : picture_looper_lines n (framed d.current (opened t)) ≡ act_lines n d.current ++ Frame t ∷ [] =
-    ap (λ fs. act_lines n d.current ++ flat_map picture_frame_lines (fs ++ opened t ∷ [])) sound in
+    let last : read_looper_lines n (framed d.current (opened t)) ≡ act_lines n d.current ++ Frame t ∷ [] =
+    ap (λ fs. act_lines n d.current ++ flat_map read_frame_lines (fs ++ opened t ∷ [])) sound in
     let lines_are : so_far part_of.Acts d ++ Frame t ∷ [] ≡ so_far part_of.Frames made =
     append_assoc (front_lines d) (act_lines n d.current) (Frame t ∷ []) ∙ ap (λ x. front_lines d ++ x) (sym last) in
     subst (Grown (so_far part_of.Acts d) (Frame t)) (same_Some made e h) (lines_are, tt)
@@ -214,16 +215,16 @@ acts_grow d e (Run r) is sound h = absurd (none-some e h)
 acts_grow d e End is sound h = subst (λ x. Grown x End e) (closed_lines d ∙ ap (λ x. front_lines d ++ x) (no_frames (length d.loopers) d.current sound)) (end_grows (closed d) e h)
 
 -- one frame more
-frames_more : (n : ℕ) (l : LooperData) (f : FrameData) → picture_looper_lines n (framed l f) ≡ picture_looper_lines n l ++ picture_frame_lines f
+frames_more : (n : ℕ) (l : LooperData) (f : FrameData) → read_looper_lines n (framed l f) ≡ read_looper_lines n l ++ read_frame_lines f
 frames_more n l f =
-    let grown : flat_map picture_frame_lines (l.frames ++ f ∷ []) ≡ flat_map picture_frame_lines l.frames ++ picture_frame_lines f =
-    flat_map-append picture_frame_lines l.frames (f ∷ []) ∙ ap (λ x. flat_map picture_frame_lines l.frames ++ x) (append-nil (picture_frame_lines f)) in
-    ap (λ x. act_lines n l ++ x) grown ∙ sym (append_assoc (act_lines n l) (flat_map picture_frame_lines l.frames) (picture_frame_lines f))
+    let grown : flat_map read_frame_lines (l.frames ++ f ∷ []) ≡ flat_map read_frame_lines l.frames ++ read_frame_lines f =
+    flat_map-append read_frame_lines l.frames (f ∷ []) ∙ ap (λ x. flat_map read_frame_lines l.frames ++ x) (append-nil (read_frame_lines f)) in
+    ap (λ x. act_lines n l ++ x) grown ∙ sym (append_assoc (act_lines n l) (flat_map read_frame_lines l.frames) (read_frame_lines f))
 
 shut_lines : (d : Draft) → front_lines (closed (shut 0 d)) ≡ so_far part_of.Frames d
 shut_lines d = closed_lines (shut 0 d)
 
-frames_grow : (d e : Draft) (l : Line) → d.part ≡ part_of.Frames → after_part part_of.Frames d l ≡ Some e → Grown (so_far part_of.Frames d) l e
+frames_grow : (d e : Draft) (l : ReportLine) → d.part ≡ part_of.Frames → after_part part_of.Frames d l ≡ Some e → Grown (so_far part_of.Frames d) l e
 frames_grow d e (Title n) is h = absurd (none-some e h)
 frames_grow d e (Looper n) is h = subst (λ x. Grown x (Looper n) e) (shut_lines d) (looper_grows (closed (shut 0 d)) e n refl h)
 frames_grow d e (Past p) is h = absurd (none-some e h)
@@ -234,21 +235,21 @@ frames_grow d e (Frame t) is h =
     let same : shut t d ≡ made = ap (λ q. record d { part = q; current = framed d.current d.frame; frame = opened t }) is in
     let n = length d.loopers in
     let lines_are : so_far part_of.Frames d ++ Frame t ∷ [] ≡ so_far part_of.Frames made =
-    append_assoc (front_lines d) (picture_looper_lines n (framed d.current d.frame)) (Frame t ∷ []) ∙ ap (λ x. front_lines d ++ x) (sym (frames_more n (framed d.current d.frame) (opened t))) in
+    append_assoc (front_lines d) (read_looper_lines n (framed d.current d.frame)) (Frame t ∷ []) ∙ ap (λ x. front_lines d ++ x) (sym (frames_more n (framed d.current d.frame) (opened t))) in
     subst (Grown (so_far part_of.Frames d) (Frame t)) (sym same ∙ same_Some (shut t d) e h) (lines_are, tt)
 frames_grow d e (Run r) is h =
     let made : Draft = record d { part = part_of.Frames; frame = with_run d.frame r } in
     let same : record d { frame = with_run d.frame r } ≡ made = ap (λ q. record d { part = q; frame = with_run d.frame r }) is in
     let n = length d.loopers in
-    let grown : picture_looper_lines n (framed d.current d.frame) ++ Run r ∷ [] ≡ picture_looper_lines n (framed d.current (with_run d.frame r)) =
-    ap (λ x. x ++ Run r ∷ []) (frames_more n d.current d.frame) ∙ append_assoc (picture_looper_lines n d.current) (picture_frame_lines d.frame) (Run r ∷ [])
-    ∙ ap (λ x. picture_looper_lines n d.current ++ Frame d.frame.time ∷ x) (sym (map-append Run d.frame.runs (r ∷ []))) ∙ sym (frames_more n d.current (with_run d.frame r)) in
+    let grown : read_looper_lines n (framed d.current d.frame) ++ Run r ∷ [] ≡ read_looper_lines n (framed d.current (with_run d.frame r)) =
+    ap (λ x. x ++ Run r ∷ []) (frames_more n d.current d.frame) ∙ append_assoc (read_looper_lines n d.current) (read_frame_lines d.frame) (Run r ∷ [])
+    ∙ ap (λ x. read_looper_lines n d.current ++ Frame d.frame.time ∷ x) (sym (map-append Run d.frame.runs (r ∷ []))) ∙ sym (frames_more n d.current (with_run d.frame r)) in
     let lines_are : so_far part_of.Frames d ++ Run r ∷ [] ≡ so_far part_of.Frames made =
-    append_assoc (front_lines d) (picture_looper_lines n (framed d.current d.frame)) (Run r ∷ []) ∙ ap (λ x. front_lines d ++ x) grown in
+    append_assoc (front_lines d) (read_looper_lines n (framed d.current d.frame)) (Run r ∷ []) ∙ ap (λ x. front_lines d ++ x) grown in
     subst (Grown (so_far part_of.Frames d) (Run r)) (sym same ∙ same_Some (record d { frame = with_run d.frame r }) e h) (lines_are, tt)
 frames_grow d e End is h = subst (λ x. Grown x End e) (shut_lines d) (end_grows (closed (shut 0 d)) e h)
 
-grows : (p : Part) (d e : Draft) (l : Line) → d.part ≡ p → IsSound p d → after_part p d l ≡ Some e → Grown (so_far p d) l e
+grows : (p : Part) (d e : Draft) (l : ReportLine) → d.part ≡ p → IsSound p d → after_part p d l ≡ Some e → Grown (so_far p d) l e
 grows part_of.Start d e l is sound h = start_grows d e l sound h
 grows part_of.Open d e l is sound h = open_grows d e l sound h
 grows part_of.Past d e l is sound h = past_grows d e l is sound h
@@ -257,11 +258,11 @@ grows part_of.Frames d e l is sound h = frames_grow d e l is h
 grows part_of.End d e l is sound h = absurd (none-some e h)
 
 -- after these lines the draft stands so
-record Stands (d : Draft) (ls : List Line) : Type 0 where
+record Stands (d : Draft) (ls : List ReportLine) : Type 0 where
   pub written : ls ≡ so_far d.part d
   pub sound : IsSound d.part d
 
-stands_on : (d e : Draft) (l : Line) (ls : List Line) → Stands d ls → next d l ≡ Some e → Stands e (ls ++ l ∷ [])
+stands_on : (d e : Draft) (l : ReportLine) (ls : List ReportLine) → Stands d ls → next d l ≡ Some e → Stands e (ls ++ l ∷ [])
 unfolding next
 stands_on d e l ls s h =
     let g = subst (λ x. Grown x l e) (sym s.written) (grows d.part d e l refl s.sound h) in
@@ -272,20 +273,25 @@ stands_on d e l ls s h =
 no_fates : FatesData
 no_fates = record { accepted = 0; dispatched = 0; removed = 0; dropped = 0; stranded = 0; queued = 0 }
 
-zero_fits : FitsFates no_fates
+zero_fits : FitsReportLine (Fates no_fates)
 unfolding no_fates
-zero_fits = (omega arith, omega arith, omega arith, omega arith, omega arith, omega arith, refl)
+zero_fits =
+    let zero : FitsWord (Long 0) = omega arith in
+    ((tt, (tt, (zero, (tt, (zero, (tt, (zero, (tt, (zero, (tt, (zero, (tt, (zero, tt))))))))))))), refl)
+
+end_fits : AllFits (End ∷ [])
+end_fits = (((tt, tt), tt), tt)
 
 -- the report ends with this looper
-ended_by : (d : Draft) (l : LooperData) (ls more : List Line) → ls ++ more ≡ front_lines d ++ picture_looper_lines (length d.loopers) l → AllFits more → Continues FitsReportLine picture_lines ls
+ended_by : (d : Draft) (l : LooperData) (ls more : List ReportLine) → ls ++ more ≡ front_lines d ++ read_looper_lines (length d.loopers) l → AllFits more → Continues FitsReportLine read_report_lines ls
 ended_by d l ls more e fit =
     let r : Report = record { edition = d.edition; loopers = d.loopers ++ l ∷ [] } in
-    (r, more ++ End ∷ [], sym (append_assoc ls more (End ∷ [])) ∙ ap (λ x. x ++ End ∷ []) (e ∙ sym (closed_lines (record d { current = l }))), AllByRecursion-append FitsReportLine more (End ∷ []) fit (tt, tt))
+    (r, more ++ End ∷ [], sym (append_assoc ls more (End ∷ [])) ∙ ap (λ x. x ++ End ∷ []) (e ∙ sym (closed_lines (record d { current = l }))), AllByRecursion-append FitsReportLine more (End ∷ []) fit end_fits)
 
-continues : (p : Part) (d : Draft) → IsSound p d → Continues FitsReportLine picture_lines (so_far p d)
+continues : (p : Part) (d : Draft) → IsSound p d → Continues FitsReportLine read_report_lines (so_far p d)
 unfolding no_fates
-continues part_of.Start d sound = (record { edition = 1; loopers = [] }, Title 1 ∷ End ∷ [], refl, (inl refl, (tt, tt)))
-continues part_of.Open d sound = (report_of d, End ∷ [], refl, (tt, tt))
+continues part_of.Start d sound = (record { edition = 1; loopers = [] }, Title 1 ∷ End ∷ [], refl, (((tt, (omega arith, tt)), inl refl), end_fits))
+continues part_of.Open d sound = (report_of d, End ∷ [], refl, end_fits)
 continues part_of.Past d sound =
     let n = length d.loopers in
     let l : LooperData = record { past = d.current.past; fates = no_fates; acts = []; frames = [] } in
@@ -337,13 +343,13 @@ runs_run e ls l t before (r ∷ rs) = runs_run e ls l t (before ++ r ∷ []) rs 
 
 -- a frame behind a frame
 frame_run : (e : ℕ) (ls : List LooperData) (l : LooperData) (before : List FrameData) (f g : FrameData)
-    → run reading (within part_of.Frames e ls (holding_frames l before) f) (picture_frame_lines g) ≡ Some (within part_of.Frames e ls (holding_frames l (before ++ f ∷ [])) g)
+    → run reading (within part_of.Frames e ls (holding_frames l before) f) (read_frame_lines g) ≡ Some (within part_of.Frames e ls (holding_frames l (before ++ f ∷ [])) g)
 unfolding run next
 frame_run e ls l before f g = runs_run e ls (holding_frames l (before ++ f ∷ [])) g.time [] g.runs
 
 -- the first frame of a looper
 first_run : (e : ℕ) (ls : List LooperData) (l : LooperData) (f : FrameData)
-    → run reading (within part_of.Acts e ls (holding_frames l []) (opened 0)) (picture_frame_lines f) ≡ Some (within part_of.Frames e ls (holding_frames l []) f)
+    → run reading (within part_of.Acts e ls (holding_frames l []) (opened 0)) (read_frame_lines f) ≡ Some (within part_of.Frames e ls (holding_frames l []) f)
 unfolding run next
 first_run e ls l f = runs_run e ls (holding_frames l []) f.time [] f.runs
 
@@ -362,7 +368,7 @@ front_run e ls l =
     run_on reading (between e ls) (within part_of.Past e ls (holding_past blank l.past) (opened 0)) (within part_of.Acts e ls (holding_frames l []) (opened 0)) (past_lines (length ls) l) (Fates l.fates ∷ map Act l.acts) first second
 
 -- a line that closes the looper before it
-abbrev Closes : Line → Type 0
+abbrev Closes : ReportLine → Type 0
 Closes (Title n) = ⊥
 Closes (Looper n) = Unit {0}
 Closes (Past p) = ⊥
@@ -372,7 +378,7 @@ Closes (Frame t) = ⊥
 Closes (Run r) = ⊥
 Closes End = Unit {0}
 
-acts_close : (e : ℕ) (ls : List LooperData) (l : LooperData) (x : Line) → Closes x → next (within part_of.Acts e ls l (opened 0)) x ≡ next (between e (ls ++ l ∷ [])) x
+acts_close : (e : ℕ) (ls : List LooperData) (l : LooperData) (x : ReportLine) → Closes x → next (within part_of.Acts e ls l (opened 0)) x ≡ next (between e (ls ++ l ∷ [])) x
 unfolding next
 acts_close e ls l (Title n) c = absurd c
 acts_close e ls l (Looper n) c = refl
@@ -383,7 +389,7 @@ acts_close e ls l (Frame t) c = absurd c
 acts_close e ls l (Run r) c = absurd c
 acts_close e ls l End c = refl
 
-frames_close : (e : ℕ) (ls : List LooperData) (l : LooperData) (f : FrameData) (x : Line) → Closes x → next (within part_of.Frames e ls l f) x ≡ next (between e (ls ++ framed l f ∷ [])) x
+frames_close : (e : ℕ) (ls : List LooperData) (l : LooperData) (f : FrameData) (x : ReportLine) → Closes x → next (within part_of.Frames e ls l f) x ≡ next (between e (ls ++ framed l f ∷ [])) x
 unfolding next
 frames_close e ls l f (Title n) c = absurd c
 frames_close e ls l f (Looper n) c = refl
@@ -394,67 +400,67 @@ frames_close e ls l f (Frame t) c = absurd c
 frames_close e ls l f (Run r) c = absurd c
 frames_close e ls l f End c = refl
 
-same_next : (c d : Draft) (x : Line) (rest : List Line) → next c x ≡ next d x → run reading c (x ∷ rest) ≡ run reading d (x ∷ rest)
+same_next : (c d : Draft) (x : ReportLine) (rest : List ReportLine) → next c x ≡ next d x → run reading c (x ∷ rest) ≡ run reading d (x ∷ rest)
 unfolding run
 same_next c d x rest e = ap (option_and_then (λ y. run reading y rest)) e
 
 -- the frames that are left, and what closes the looper
-frames_run : (e : ℕ) (ls : List LooperData) (l : LooperData) (before : List FrameData) (f : FrameData) (fs : List FrameData) (x : Line) (rest : List Line) (d : Draft) → Closes x
-    → run reading (between e (ls ++ holding_frames l (before ++ f ∷ fs) ∷ [])) (x ∷ rest) ≡ Some d → run reading (within part_of.Frames e ls (holding_frames l before) f) (flat_map picture_frame_lines fs ++ x ∷ rest) ≡ Some d
+frames_run : (e : ℕ) (ls : List LooperData) (l : LooperData) (before : List FrameData) (f : FrameData) (fs : List FrameData) (x : ReportLine) (rest : List ReportLine) (d : Draft) → Closes x
+    → run reading (between e (ls ++ holding_frames l (before ++ f ∷ fs) ∷ [])) (x ∷ rest) ≡ Some d → run reading (within part_of.Frames e ls (holding_frames l before) f) (flat_map read_frame_lines fs ++ x ∷ rest) ≡ Some d
 frames_run e ls l before f [] x rest d c h =
     same_next (within part_of.Frames e ls (holding_frames l before) f) (between e (ls ++ holding_frames l (before ++ f ∷ []) ∷ [])) x rest (frames_close e ls (holding_frames l before) f x c) ∙ h
 frames_run e ls l before f (g ∷ fs) x rest d c h =
     let later = frames_run e ls l (before ++ f ∷ []) g fs x rest d c (ap (λ gs. run reading (between e (ls ++ holding_frames l gs ∷ [])) (x ∷ rest)) (append_assoc before (f ∷ []) (g ∷ fs)) ∙ h) in
-    ap (run reading (within part_of.Frames e ls (holding_frames l before) f)) (append_assoc (picture_frame_lines g) (flat_map picture_frame_lines fs) (x ∷ rest))
-    ∙ run_on reading (within part_of.Frames e ls (holding_frames l before) f) (within part_of.Frames e ls (holding_frames l (before ++ f ∷ [])) g) d (picture_frame_lines g) (flat_map picture_frame_lines fs ++ x ∷ rest) (frame_run e ls l before f g) later
+    ap (run reading (within part_of.Frames e ls (holding_frames l before) f)) (append_assoc (read_frame_lines g) (flat_map read_frame_lines fs) (x ∷ rest))
+    ∙ run_on reading (within part_of.Frames e ls (holding_frames l before) f) (within part_of.Frames e ls (holding_frames l (before ++ f ∷ [])) g) d (read_frame_lines g) (flat_map read_frame_lines fs ++ x ∷ rest) (frame_run e ls l before f g) later
 
 -- all frames, and what closes the looper
-rest_run : (e : ℕ) (ls : List LooperData) (l : LooperData) (fs : List FrameData) (x : Line) (rest : List Line) (d : Draft) → Closes x
-    → run reading (between e (ls ++ holding_frames l fs ∷ [])) (x ∷ rest) ≡ Some d → run reading (within part_of.Acts e ls (holding_frames l []) (opened 0)) (flat_map picture_frame_lines fs ++ x ∷ rest) ≡ Some d
+rest_run : (e : ℕ) (ls : List LooperData) (l : LooperData) (fs : List FrameData) (x : ReportLine) (rest : List ReportLine) (d : Draft) → Closes x
+    → run reading (between e (ls ++ holding_frames l fs ∷ [])) (x ∷ rest) ≡ Some d → run reading (within part_of.Acts e ls (holding_frames l []) (opened 0)) (flat_map read_frame_lines fs ++ x ∷ rest) ≡ Some d
 rest_run e ls l [] x rest d c h =
     same_next (within part_of.Acts e ls (holding_frames l []) (opened 0)) (between e (ls ++ holding_frames l [] ∷ [])) x rest (acts_close e ls (holding_frames l []) x c) ∙ h
 rest_run e ls l (f ∷ fs) x rest d c h =
-    ap (run reading (within part_of.Acts e ls (holding_frames l []) (opened 0))) (append_assoc (picture_frame_lines f) (flat_map picture_frame_lines fs) (x ∷ rest))
-    ∙ run_on reading (within part_of.Acts e ls (holding_frames l []) (opened 0)) (within part_of.Frames e ls (holding_frames l []) f) d (picture_frame_lines f) (flat_map picture_frame_lines fs ++ x ∷ rest) (first_run e ls l f) (frames_run e ls l [] f fs x rest d c h)
+    ap (run reading (within part_of.Acts e ls (holding_frames l []) (opened 0))) (append_assoc (read_frame_lines f) (flat_map read_frame_lines fs) (x ∷ rest))
+    ∙ run_on reading (within part_of.Acts e ls (holding_frames l []) (opened 0)) (within part_of.Frames e ls (holding_frames l []) f) d (read_frame_lines f) (flat_map read_frame_lines fs ++ x ∷ rest) (first_run e ls l f) (frames_run e ls l [] f fs x rest d c h)
 
-looper_run : (e : ℕ) (ls : List LooperData) (l : LooperData) (x : Line) (rest : List Line) (d : Draft) → Closes x
-    → run reading (between e (ls ++ l ∷ [])) (x ∷ rest) ≡ Some d → run reading (between e ls) (picture_looper_lines (length ls) l ++ x ∷ rest) ≡ Some d
+looper_run : (e : ℕ) (ls : List LooperData) (l : LooperData) (x : ReportLine) (rest : List ReportLine) (d : Draft) → Closes x
+    → run reading (between e (ls ++ l ∷ [])) (x ∷ rest) ≡ Some d → run reading (between e ls) (read_looper_lines (length ls) l ++ x ∷ rest) ≡ Some d
 looper_run e ls l x rest d c h =
     let n = length ls in
-    let cut : picture_looper_lines n l ++ x ∷ rest ≡ act_lines n l ++ (flat_map picture_frame_lines l.frames ++ x ∷ rest) =
-    append_assoc (act_lines n l) (flat_map picture_frame_lines l.frames) (x ∷ rest) in
+    let cut : read_looper_lines n l ++ x ∷ rest ≡ act_lines n l ++ (flat_map read_frame_lines l.frames ++ x ∷ rest) =
+    append_assoc (act_lines n l) (flat_map read_frame_lines l.frames) (x ∷ rest) in
     ap (run reading (between e ls)) cut
-    ∙ run_on reading (between e ls) (within part_of.Acts e ls (holding_frames l []) (opened 0)) d (act_lines n l) (flat_map picture_frame_lines l.frames ++ x ∷ rest) (front_run e ls l) (rest_run e ls l l.frames x rest d c h)
+    ∙ run_on reading (between e ls) (within part_of.Acts e ls (holding_frames l []) (opened 0)) d (act_lines n l) (flat_map read_frame_lines l.frames ++ x ∷ rest) (front_run e ls l) (rest_run e ls l l.frames x rest d c h)
 
 -- ---- all loopers
 
 -- what follows a looper closes it
-closing : (n : ℕ) (ms : List LooperData) (x : Line) (rest : List Line) → Closes x → (y : Line) × (more : List Line) × (picture_loopers_lines n ms ++ x ∷ rest ≡ y ∷ more) × Closes y
+closing : (n : ℕ) (ms : List LooperData) (x : ReportLine) (rest : List ReportLine) → Closes x → (y : ReportLine) × (more : List ReportLine) × (read_loopers_lines n ms ++ x ∷ rest ≡ y ∷ more) × Closes y
 closing n [] x rest c = (x, rest, refl, c)
 closing n (m ∷ ms) x rest c = (Looper n, _, refl, tt)
 
-loopers_run : (e : ℕ) (ls ms : List LooperData) (x : Line) (rest : List Line) (d : Draft) → Closes x
-    → run reading (between e (ls ++ ms)) (x ∷ rest) ≡ Some d → run reading (between e ls) (picture_loopers_lines (length ls) ms ++ x ∷ rest) ≡ Some d
+loopers_run : (e : ℕ) (ls ms : List LooperData) (x : ReportLine) (rest : List ReportLine) (d : Draft) → Closes x
+    → run reading (between e (ls ++ ms)) (x ∷ rest) ≡ Some d → run reading (between e ls) (read_loopers_lines (length ls) ms ++ x ∷ rest) ≡ Some d
 loopers_run e ls [] x rest d c h = ap (λ ks. run reading (between e ks) (x ∷ rest)) (sym (append-nil ls)) ∙ h
 loopers_run e ls (m ∷ ms) x rest d c h =
     let n = length ls in
     let count : length (ls ++ m ∷ []) ≡ n + 1 = omega (arith, length-append ls (m ∷ [])) in
-    let later : run reading (between e (ls ++ m ∷ [])) (picture_loopers_lines (n + 1) ms ++ x ∷ rest) ≡ Some d =
-    ap (λ k. run reading (between e (ls ++ m ∷ [])) (picture_loopers_lines k ms ++ x ∷ rest)) (sym count) ∙ loopers_run e (ls ++ m ∷ []) ms x rest d c (ap (λ ks. run reading (between e ks) (x ∷ rest)) (append_assoc ls (m ∷ []) ms) ∙ h) in
+    let later : run reading (between e (ls ++ m ∷ [])) (read_loopers_lines (n + 1) ms ++ x ∷ rest) ≡ Some d =
+    ap (λ k. run reading (between e (ls ++ m ∷ [])) (read_loopers_lines k ms ++ x ∷ rest)) (sym count) ∙ loopers_run e (ls ++ m ∷ []) ms x rest d c (ap (λ ks. run reading (between e ks) (x ∷ rest)) (append_assoc ls (m ∷ []) ms) ∙ h) in
     let y = closing (n + 1) ms x rest c in
-    let one : run reading (between e ls) (picture_looper_lines n m ++ y.0 ∷ y.1) ≡ Some d = looper_run e ls m y.0 y.1 d y.3 (ap (run reading (between e (ls ++ m ∷ []))) (sym y.2) ∙ later) in
-    ap (run reading (between e ls)) (append_assoc (picture_looper_lines n m) (picture_loopers_lines (n + 1) ms) (x ∷ rest) ∙ ap (λ z. picture_looper_lines n m ++ z) y.2) ∙ one
+    let one : run reading (between e ls) (read_looper_lines n m ++ y.0 ∷ y.1) ≡ Some d = looper_run e ls m y.0 y.1 d y.3 (ap (run reading (between e (ls ++ m ∷ []))) (sym y.2) ∙ later) in
+    ap (run reading (between e ls)) (append_assoc (read_looper_lines n m) (read_loopers_lines (n + 1) ms) (x ∷ rest) ∙ ap (λ z. read_looper_lines n m ++ z) y.2) ∙ one
 
 abbrev finished : Report → Draft
 finished r = record { part = part_of.End; edition = r.edition; loopers = r.loopers; current = blank; frame = opened 0 }
 
-lines_run : (r : Report) → run reading start (picture_lines r) ≡ Some (finished r)
+lines_run : (r : Report) → run reading start (read_report_lines r) ≡ Some (finished r)
 unfolding run next
 lines_run r = loopers_run r.edition [] r.loopers End [] (finished r) tt refl
 
 -- ---- the whole text
 
-ending : (q : Part) (d : Draft) (ls : List Line) → is_report_end q ≡ true → ls ≡ so_far q d → ls ≡ picture_lines (report_of d)
+ending : (q : Part) (d : Draft) (ls : List ReportLine) → is_report_end q ≡ true → ls ≡ so_far q d → ls ≡ read_report_lines (report_of d)
 ending part_of.Start d ls e w = absurd cc
 ending part_of.Open d ls e w = absurd cc
 ending part_of.Past d ls e w = absurd cc
@@ -466,18 +472,18 @@ pub nothing_said : line_of (words []) ≡ None
 unfolding line_of spelled_number
 nothing_said = refl
 
-form : IsForm reading bytes_of picture_line_text picture_lines FitsReportLine Stands
+form : IsForm reading bytes_of report_line_text read_report_lines FitsReportLine Stands
 form = record {
   fed = fed;
-  free = λ l fit. no_feed_within (picture_line_words l) (line_are l fit);
+  free = λ l fit. no_feed_within (spelled_words (report_line_words l)) (line_are l fit);
   again = read_again;
-  taken = λ bytes l is. (let t = line_taken (words bytes) l is in (t.0, words_taken bytes (picture_line_words l) t.1));
+  taken = λ bytes l is. (let t = line_taken (words bytes) l is in (t.0, words_taken bytes (spelled_words (report_line_words l)) t.1));
   empty = nothing_said;
   leads = λ t. (finished t, lines_run t, refl, refl);
   starts = record { written = refl; sound = (refl, refl) };
   more = stands_on;
   ends = λ d ls s e. ending d.part d ls e s.written;
-  continues = λ d ls s. subst (Continues FitsReportLine picture_lines) (sym s.written) (continues d.part d s.sound);
+  continues = λ d ls s. subst (Continues FitsReportLine read_report_lines) (sym s.written) (continues d.part d s.sound);
 }
 
 -- ---- where a text stops

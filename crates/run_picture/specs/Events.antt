@@ -8,8 +8,8 @@ use Rattle.run_picture.specs.declared.report.Looper.{Looper}
 use Rattle.run_picture.specs.declared.report.Report.{Report}
 use Rattle.run_picture.specs.declared.report.Subject.{Subject}
 use Rattle.run_picture.specs.declared.report.Subject.TheVariants.{What, Callback}
-use Rattle.run_picture.specs.declared.mark.Kind.{Kind}
-use Rattle.run_picture.specs.declared.mark.Kind.TheVariants.{Dispatch, Frame, Run, Paint}
+use Rattle.run_picture.specs.declared.mark.MarkKind.{MarkKind}
+use Rattle.run_picture.specs.declared.mark.MarkKind.TheVariants.{Dispatch, Frame, Run, Paint}
 use Rattle.run_picture.specs.declared.mark.Mark.{Mark}
 use Rattle.run_picture.specs.declared.mark.Moment.{Moment}
 use Rattle.run_picture.specs.Marks.{marks}
@@ -30,7 +30,7 @@ dispatch_name handler (What w) = codes "handler " ++ decimal handler ++ codes " 
 dispatch_name handler (Callback c) = codes "handler " ++ decimal handler ++ codes " callback " ++ decimal c
 
 -- the name of a mark's slice, or of its counter
-abbrev pub kind_name : ℕ → Kind → List ℕ
+abbrev pub kind_name : ℕ → MarkKind → List ℕ
 kind_name lane (Dispatch n handler subject) = dispatch_name handler subject
 kind_name lane Frame = codes "frame"
 kind_name lane (Run r) = codes "phase " ++ decimal r.phase ++ codes " callback " ++ decimal r.id
@@ -55,7 +55,7 @@ abbrev pub slice : ℕ → Members → Members
 slice lasts ms = put (codes "dur") (count lasts) (phased (codes "X") ms)
 
 -- what an event tells beside: a slice, of a microsecond where a report tells no length, with a message's number where it is a dispatch, or a counter's value
-unfoldable pub kind_members : ℕ → Kind → Members → Members
+unfoldable pub kind_members : ℕ → MarkKind → Members → Members
 kind_members period (Dispatch n handler subject) ms = argued (codes "number") (count n) (slice 1 ms)
 kind_members period Frame ms = slice period ms
 kind_members period (Run r) ms = slice 1 ms

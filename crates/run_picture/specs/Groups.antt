@@ -5,8 +5,8 @@ use Rattle.std.specs.List.Sorted.{IsStableByKey, IsStrictlySortedBy}
 use Rattle.std.specs.declared.cmp.Ordering.{Ordering}
 use Rattle.std.specs.Ordering.{nat_cmp}
 use Rattle.std.specs.Cmp.Lexicographic.{slice_cmp}
-use Rattle.run_picture.specs.declared.mark.Kind.{Kind}
-use Rattle.run_picture.specs.declared.mark.Kind.TheVariants as kind_of
+use Rattle.run_picture.specs.declared.mark.MarkKind.{MarkKind}
+use Rattle.run_picture.specs.declared.mark.MarkKind.TheVariants as kind_of
 use Rattle.run_picture.specs.declared.mark.Mark.{Mark}
 use Rattle.run_picture.specs.declared.mark.Moment.{Moment}
 use Rattle.run_picture.specs.declared.group.Row.{Row}
@@ -16,7 +16,7 @@ use Rattle.run_picture.specs.declared.group.Scale.{Scale}
 use Rattle.run_picture.specs.declared.group.Group.{Group}
 
 -- the row of a mark
-abbrev pub mark_row : Kind → Row
+abbrev pub mark_row : MarkKind → Row
 mark_row (kind_of.Dispatch number handler subject) = Handler handler
 mark_row kind_of.Frame = Frames
 mark_row (kind_of.Run r) = Runs
@@ -31,7 +31,7 @@ abbrev pub pixels : Scale → ℕ → ℕ
 pixels s t = min (min ((t - s.first) * s.width) (2 ^ 128 - 1) / max s.span 1) s.width
 
 -- a callback stands behind its moment by its phase
-abbrev pub shift : Scale → Kind → ℕ
+abbrev pub shift : Scale → MarkKind → ℕ
 shift s (kind_of.Dispatch number handler subject) = 0
 shift s kind_of.Frame = 0
 shift s (kind_of.Run r) = min r.phase 4 * s.slot

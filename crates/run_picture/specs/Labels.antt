@@ -3,8 +3,8 @@ use Rattle.std.specs.Prelude.{ℕ, ◌/◌, ◌%◌, ◌==◌, nat_lt, List, [],
 use Rattle.std.specs.Fmt.{decimal}
 use Rattle.run_picture.specs.declared.report.Subject.{Subject}
 use Rattle.run_picture.specs.declared.report.Subject.TheVariants.{What, Callback}
-use Rattle.run_picture.specs.declared.mark.Kind.{Kind}
-use Rattle.run_picture.specs.declared.mark.Kind.TheVariants.{Dispatch, Frame, Run, Paint}
+use Rattle.run_picture.specs.declared.mark.MarkKind.{MarkKind}
+use Rattle.run_picture.specs.declared.mark.MarkKind.TheVariants.{Dispatch, Frame, Run, Paint}
 use Rattle.run_picture.specs.declared.mark.Mark.{Mark}
 use Rattle.run_picture.specs.declared.mark.Moment.{Moment}
 use Rattle.run_picture.specs.declared.group.Group.{Group}
@@ -22,7 +22,7 @@ subject_text (What w) = codes "what " ++ decimal w
 subject_text (Callback c) = codes "callback " ++ decimal c
 
 -- what a mark shows
-abbrev pub kind_text : Kind → List ℕ
+abbrev pub kind_text : MarkKind → List ℕ
 kind_text (Dispatch number handler subject) = codes "message " ++ decimal number ++ codes ", handler " ++ decimal handler ++ codes ", " ++ subject_text subject
 kind_text Frame = codes "frame"
 kind_text (Run r) = codes "callback " ++ decimal r.id ++ codes " in phase " ++ decimal r.phase

@@ -5,19 +5,19 @@ use Rattle.line_words.specs.Taking.{Rest, and_then, by_word, word, whole, long, 
 use Rattle.run_picture.specs.declared.report.Past.TheVariants as past_of
 use Rattle.run_picture.specs.declared.report.Fates.{Fates as FatesData}
 use Rattle.run_picture.specs.declared.report.Act.TheVariants as act_of
-use Rattle.run_picture.specs.declared.line.Line.{Line}
-use Rattle.run_picture.specs.declared.line.Line.TheVariants.{Title, Looper, Past, Fates, Act, Frame, Run, End}
+use Rattle.run_picture.specs.declared.line.ReportLine.{ReportLine}
+use Rattle.run_picture.specs.declared.line.ReportLine.TheVariants.{Title, Looper, Past, Fates, Act, Frame, Run, End}
 use Rattle.run_picture.specs.Reading.{subject}
 
 -- a dispatch at this time
-unfoldable pub dispatch : ℕ → Rest → Option Line
+unfoldable pub dispatch : ℕ → Rest → Option ReportLine
 dispatch now rest0 =
     and_then (counted (codes "dispatch") rest0) (λ number rest1.
     and_then (short rest1) (λ handler rest2.
     and_then (subject rest2) (λ subject rest3.
     whole (Past (past_of.Dispatch now number handler subject)) rest3)))
 
-unfoldable pub refused_line : Rest → Option Line
+unfoldable pub refused_line : Rest → Option ReportLine
 refused_line rest0 =
     and_then (short rest0) (λ handler rest1.
     and_then (subject rest1) (λ subject rest2.
@@ -39,24 +39,24 @@ fates_of rest0 =
 abbrev pub adds_up : FatesData → Bool
 adds_up f = f.accepted == f.dispatched + f.removed + f.dropped + f.stranded + f.queued
 
-unfoldable pub fates_said : Rest → Option Line
+unfoldable pub fates_said : Rest → Option ReportLine
 fates_said rest = and_then (fates_of rest) (λ f more. if adds_up f then whole (Fates f) more else None)
 
-unfoldable pub title : Rest → Option Line
+unfoldable pub title : Rest → Option ReportLine
 title rest =
     and_then (short rest) (λ edition more.
     if edition == 1 then whole (Title edition) more else if edition == 2 then whole (Title edition) more else None)
 
 -- a line of one number
-abbrev pub one_long : (ℕ → Line) → Rest → Option Line
+abbrev pub one_long : (ℕ → ReportLine) → Rest → Option ReportLine
 one_long make rest = and_then (long rest) (λ n more. whole (make n) more)
 
 -- a line of two numbers of 32 bits
-abbrev pub two_short : (ℕ → ℕ → Line) → Rest → Option Line
+abbrev pub two_short : (ℕ → ℕ → ReportLine) → Rest → Option ReportLine
 two_short make rest = and_then (short rest) (λ a more. and_then (short more) (λ b most. whole (make a b) most))
 
 -- what stands behind the first word of a line
-abbrev pub rows : List (List ℕ × (Rest → Option Line))
+abbrev pub rows : List (List ℕ × (Rest → Option ReportLine))
 rows =
     (codes "refused", refused_line)
     ∷ (codes "not-posted", one_long (λ token. Past (past_of.NotPosted token)))
@@ -74,10 +74,10 @@ rows =
     ∷ []
 
 -- a number begins the line of a dispatch, and other words name the line
-abbrev pub line_by : List ℕ → Option ℕ → Rest → Option Line
+abbrev pub line_by : List ℕ → Option ℕ → Rest → Option ReportLine
 line_by w (Some now) rest = dispatch now rest
 line_by w None rest = by_word rows w rest
 
 -- what the words of a line say
-unfoldable pub line_of : Rest → Option Line
+unfoldable pub line_of : Rest → Option ReportLine
 line_of ws = and_then (word ws) (λ w rest. line_by w (spelled_number w) rest)

@@ -9,8 +9,8 @@ use Rattle.run_picture.specs.declared.report.Run.{Run as RunData}
 use Rattle.run_picture.specs.declared.report.Frame.{Frame as FrameData}
 use Rattle.run_picture.specs.declared.report.Looper.{Looper}
 use Rattle.run_picture.specs.declared.report.Report.{Report}
-use Rattle.run_picture.specs.declared.mark.Kind.{Kind}
-use Rattle.run_picture.specs.declared.mark.Kind.TheVariants.{Dispatch, Frame, Run, Paint}
+use Rattle.run_picture.specs.declared.mark.MarkKind.{MarkKind}
+use Rattle.run_picture.specs.declared.mark.MarkKind.TheVariants.{Dispatch, Frame, Run, Paint}
 use Rattle.run_picture.specs.declared.mark.Moment.{Moment}
 use Rattle.run_picture.specs.declared.mark.Mark.{Mark}
 use Rattle.run_picture.specs.declared.mark.Painted.{Painted}
@@ -29,7 +29,7 @@ abbrev pub split_moment : ℕ → Moment
 split_moment t = record { millis = t / 1000000; nanos = t % 1000000 }
 
 -- a mark at a time in nanoseconds
-abbrev pub frame_mark : ℕ → ℕ → Kind → Mark
+abbrev pub frame_mark : ℕ → ℕ → MarkKind → Mark
 frame_mark lane t kind = record { lane = lane; time = split_moment t; kind = kind }
 
 abbrev pub run_mark : ℕ → ℕ → RunData → List Mark

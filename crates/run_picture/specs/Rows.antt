@@ -1,7 +1,7 @@
 -- How high the groups of a picture stand.
 use Rattle.std.specs.Prelude.{◌≡◌, ◌≤◌, ℕ, ◌+◌, ◌-◌, ◌*◌, ◌/◌, ◌^◌, min, max, List, [], ◌∷◌, Option, Some, None}
-use Rattle.run_picture.specs.declared.mark.Kind.{Kind}
-use Rattle.run_picture.specs.declared.mark.Kind.TheVariants as kind_of
+use Rattle.run_picture.specs.declared.mark.MarkKind.{MarkKind}
+use Rattle.run_picture.specs.declared.mark.MarkKind.TheVariants as kind_of
 use Rattle.run_picture.specs.declared.mark.Mark.{Mark}
 use Rattle.run_picture.specs.declared.group.Group.{Group}
 use Rattle.run_picture.specs.declared.group.Row.{Row}
@@ -32,7 +32,7 @@ StandsBehind None t = Unit {0}
 StandsBehind (Some s) t = (IsSameRow s t → s.top ≡ t.top) × ((IsSameRow s t → ⊥) → saturated (s.top + 22) ≤ t.top)
 
 -- the value that a mark shows
-abbrev pub value : Kind → ℕ
+abbrev pub value : MarkKind → ℕ
 value (kind_of.Dispatch number handler subject) = 0
 value kind_of.Frame = 0
 value (kind_of.Run r) = 0

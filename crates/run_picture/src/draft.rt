@@ -3,7 +3,7 @@ ghost use Rattle.std.specs.Prelude.{◌≡◌, IfOk, OnOk};
 ghost use Rattle.line_words.specs.LineReading.{answered};
 ghost use Rattle.run_picture.specs.Progress.{after_acts, after_frames, after_open, after_past, after_start, blank, closed, opened, shut};
 
-use crate::line::Line;
+use crate::line::ReportLine;
 use crate::lines::line_of;
 use crate::report::{Act, Fates, Frame, Looper, Past, Report, Run};
 use line_words::{ByLines, Stop};
@@ -84,11 +84,11 @@ impl Draft {
         Ok(())
     }
 
-    fn add_title(&mut self, line: &Line) -> bool
+    fn add_title(&mut self, line: &ReportLine) -> bool
         ensures { after_start self.old line.now ≡ answered result self.new }
     {
         match *line {
-            Line::Title(edition) => {
+            ReportLine::Title(edition) => {
                 self.edition = edition;
                 self.part = Part::Open;
                 true
@@ -97,11 +97,11 @@ impl Draft {
         }
     }
 
-    fn add_between(&mut self, line: &Line) -> bool
+    fn add_between(&mut self, line: &ReportLine) -> bool
         ensures { after_open self.old line.now ≡ answered result self.new }
     {
         match *line {
-            Line::Looper(number) => {
+            ReportLine::Looper(number) => {
                 if number == self.loopers.len() as u64 {
                     self.part = Part::Past;
                     true
@@ -109,7 +109,7 @@ impl Draft {
                     false
                 }
             }
-            Line::End => {
+            ReportLine::End => {
                 self.part = Part::End;
                 true
             }
@@ -117,15 +117,15 @@ impl Draft {
         }
     }
 
-    fn add_past(&mut self, line: &Line) -> Result<bool, NoMemory>
+    fn add_past(&mut self, line: &ReportLine) -> Result<bool, NoMemory>
         ensures { IfOk result (λ good. after_past self.old line.now ≡ answered good self.new) }
     {
         match *line {
-            Line::Past(past) => {
+            ReportLine::Past(past) => {
                 self.current.past.push(past)?;
                 Ok(true)
             }
-            Line::Fates(fates) => {
+            ReportLine::Fates(fates) => {
                 self.current.fates = fates;
                 self.part = Part::Acts;
                 Ok(true)
@@ -134,24 +134,24 @@ impl Draft {
         }
     }
 
-    fn add_act(&mut self, alloc: Global, line: &Line) -> Result<bool, NoMemory>
+    fn add_act(&mut self, alloc: Global, line: &ReportLine) -> Result<bool, NoMemory>
         ensures { IfOk result (λ good. after_acts self.old line.now ≡ answered good self.new) }
     {
         match *line {
-            Line::Act(act) => {
+            ReportLine::Act(act) => {
                 self.current.acts.push(act)?;
                 Ok(true)
             }
-            Line::Frame(time) => {
+            ReportLine::Frame(time) => {
                 self.frame = opened(alloc, time);
                 self.part = Part::Frames;
                 Ok(true)
             }
-            Line::Looper(_) => {
+            ReportLine::Looper(_) => {
                 self.close(alloc)?;
                 Ok(self.add_between(line))
             }
-            Line::End => {
+            ReportLine::End => {
                 self.close(alloc)?;
                 Ok(self.add_between(line))
             }
@@ -159,24 +159,24 @@ impl Draft {
         }
     }
 
-    fn add_frame(&mut self, alloc: Global, line: &Line) -> Result<bool, NoMemory>
+    fn add_frame(&mut self, alloc: Global, line: &ReportLine) -> Result<bool, NoMemory>
         ensures { IfOk result (λ good. after_frames self.old line.now ≡ answered good self.new) }
     {
         match *line {
-            Line::Run(run) => {
+            ReportLine::Run(run) => {
                 self.frame.runs.push(run)?;
                 Ok(true)
             }
-            Line::Frame(time) => {
+            ReportLine::Frame(time) => {
                 self.shut(alloc, time)?;
                 Ok(true)
             }
-            Line::Looper(_) => {
+            ReportLine::Looper(_) => {
                 self.shut(alloc, 0)?;
                 self.close(alloc)?;
                 Ok(self.add_between(line))
             }
-            Line::End => {
+            ReportLine::End => {
                 self.shut(alloc, 0)?;
                 self.close(alloc)?;
                 Ok(self.add_between(line))
@@ -191,11 +191,11 @@ impl ByLines for Draft {
 
     type Cause = ();
 
-    ghost use Rattle.run_picture.specs.declared.line.Line.{Line};
+    ghost use Rattle.run_picture.specs.declared.line.ReportLine.{ReportLine};
     ghost use Rattle.run_picture.specs.declared.draft.Draft.{Draft};
     ghost use Rattle.run_picture.specs.Progress.{reports};
 
-    ghost Said = { Line };
+    ghost Said = { ReportLine };
 
     ghost Held = { Draft };
 

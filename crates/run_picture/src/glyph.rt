@@ -1,7 +1,7 @@
 //! The shape of a mark, drawn from its place on.
 use crate::canvas::Canvas;
 use crate::group::{Group, Place, Row, Scale, key};
-use crate::mark::Kind;
+use crate::mark::MarkKind;
 use crate::report::Subject;
 use crate::shape::{Extent, numbered, push_class, push_rect, push_text};
 use crate::shelf::value_of;
@@ -172,7 +172,7 @@ fn beside(alloc: Global, group: &Group) -> Result<Vec<u8>, NoMemory> {
         return numbered(alloc, b"x", marks.len() as u64);
     }
     if let Some(mark) = marks.first() {
-        if let Kind::Dispatch { subject, .. } = mark.kind {
+        if let MarkKind::Dispatch { subject, .. } = mark.kind {
             return match subject {
                 Subject::What(what) => numbered(alloc, b"", u64::from(what)),
                 Subject::Callback(callback) => numbered(alloc, b"c", callback),
@@ -230,7 +230,7 @@ fn push_letter(
 /// Whether a callback of a group ran in a phase; those behind the fifth count as the fifth.
 fn has_phase(group: &Group, phase: u32) -> bool {
     for mark in group.marks.as_slice() {
-        if let Kind::Run(run) = mark.kind {
+        if let MarkKind::Run(run) = mark.kind {
             if run.phase.min(4) == phase {
                 return true;
             }
@@ -316,9 +316,9 @@ pub(crate) fn push_glyph(
         return Ok(());
     };
     match mark.kind {
-        Kind::Dispatch { handler, .. } => push_dispatch(alloc, out, spot, handler, group),
-        Kind::Frame => push_frame(out, spot, group.place.column),
-        Kind::Run(_) => push_run(alloc, out, spot, group),
-        Kind::Paint { .. } => push_paint(alloc, out, spot, group),
+        MarkKind::Dispatch { handler, .. } => push_dispatch(alloc, out, spot, handler, group),
+        MarkKind::Frame => push_frame(out, spot, group.place.column),
+        MarkKind::Run(_) => push_run(alloc, out, spot, group),
+        MarkKind::Paint { .. } => push_paint(alloc, out, spot, group),
     }
 }

@@ -4,7 +4,7 @@ ghost use Rattle.std.specs.List.{flat_map, AllByRecursion};
 ghost use Rattle.std.specs.List.Sorted.{IsSortedByKey};
 ghost use Rattle.run_picture.specs.Groups.{AreCut, HasMarks, IsOfPlace, KeepOrder, GroupsRise, begun, column, key, marks_of, nanos, number, order, pixels, place, rank, mark_row, shift, with_mark};
 
-use crate::mark::{Kind, Mark, Moment, NANOS_PER_MILLI};
+use crate::mark::{Mark, MarkKind, Moment, NANOS_PER_MILLI};
 use loop_model::{NoMemory, Sequence};
 use std::alloc::Global;
 use std::mem::replace;
@@ -65,14 +65,14 @@ pub(crate) fn nanos(moment: Moment) -> u128
 }
 
 /// The row of a mark.
-pub(crate) fn row_of(kind: Kind) -> Row
+pub(crate) fn row_of(kind: MarkKind) -> Row
     ensures { result ≡ mark_row kind }
 {
     match kind {
-        Kind::Dispatch { handler, .. } => Row::Handler(handler),
-        Kind::Frame => Row::Frames,
-        Kind::Run(_) => Row::Runs,
-        Kind::Paint { gauge, .. } => Row::Gauge(gauge),
+        MarkKind::Dispatch { handler, .. } => Row::Handler(handler),
+        MarkKind::Frame => Row::Frames,
+        MarkKind::Run(_) => Row::Runs,
+        MarkKind::Paint { gauge, .. } => Row::Gauge(gauge),
     }
 }
 
@@ -89,15 +89,15 @@ impl Scale {
     }
 
     /// How far a mark stands behind its moment, in pixels: a callback by its phase.
-    fn shift(&self, kind: Kind) -> u64
+    fn shift(&self, kind: MarkKind) -> u64
         ensures is { result ≡ shift self.now kind }
         ensures near { result < 2 ^ 40 }
     {
         match kind {
-            Kind::Run(run) => u64::from(run.phase.min(4)) * u64::from(self.slot),
-            Kind::Dispatch { .. } => 0,
-            Kind::Frame => 0,
-            Kind::Paint { .. } => 0,
+            MarkKind::Run(run) => u64::from(run.phase.min(4)) * u64::from(self.slot),
+            MarkKind::Dispatch { .. } => 0,
+            MarkKind::Frame => 0,
+            MarkKind::Paint { .. } => 0,
         }
     }
 

@@ -5,7 +5,7 @@ ghost use Rattle.std.specs.List.{flat_map};
 ghost use Rattle.run_picture.specs.Labels.{entity, fraction, group_text, kind_text, mark_text, more_text, subject_text, time_text};
 
 use crate::group::Group;
-use crate::mark::{Kind, Mark, Moment};
+use crate::mark::{Mark, MarkKind, Moment};
 use crate::report::Subject;
 use line_words::push_number;
 use loop_model::NoMemory;
@@ -57,11 +57,11 @@ pub(crate) fn push_subject(out: &mut Vec<u8>, subject: Subject) -> Result<(), No
 
 /// What a mark shows.
 #[tactic(auto, using(std::proofs::lemmas::List::append_assoc))]
-pub(crate) fn push_kind(out: &mut Vec<u8>, kind: Kind) -> Result<(), NoMemory>
+pub(crate) fn push_kind(out: &mut Vec<u8>, kind: MarkKind) -> Result<(), NoMemory>
     ensures { OnOk result (out.new.items ≡ out.old.items ++ kind_text kind) }
 {
     match kind {
-        Kind::Dispatch {
+        MarkKind::Dispatch {
             number,
             handler,
             subject,
@@ -71,15 +71,15 @@ pub(crate) fn push_kind(out: &mut Vec<u8>, kind: Kind) -> Result<(), NoMemory>
             out.extend_from_slice(b", ")?;
             push_subject(out, subject)
         }
-        Kind::Frame => {
+        MarkKind::Frame => {
             out.extend_from_slice(b"frame")?;
             Ok(())
         }
-        Kind::Run(run) => {
+        MarkKind::Run(run) => {
             push_named(out, b"callback ", run.id)?;
             push_named(out, b" in phase ", u64::from(run.phase))
         }
-        Kind::Paint { gauge, value } => {
+        MarkKind::Paint { gauge, value } => {
             push_named(out, b"gauge ", u64::from(gauge))?;
             push_named(out, b" at ", u64::from(value))
         }

@@ -2,7 +2,7 @@
 use crate::canvas::Canvas;
 use crate::group::{Group, Row};
 use crate::label::{push_named, push_subject};
-use crate::mark::Kind;
+use crate::mark::MarkKind;
 use crate::report::{Act, Fates, Looper, Past, Report};
 use crate::shape::{LEFT, numbered, push_line, push_text};
 use line_words::push_number;

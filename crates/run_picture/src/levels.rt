@@ -2,7 +2,7 @@
 use crate::canvas::Canvas;
 use crate::group::{Group, Place, Row, nanos};
 use crate::lanes::Lanes;
-use crate::mark::{Kind, Mark};
+use crate::mark::{Mark, MarkKind};
 use crate::shape::{LEFT, numbered, push_line, push_text};
 use crate::shelf::{depth_of, value_of};
 use crate::view::{Window, ends_of};
@@ -52,7 +52,7 @@ fn value_before(gauges: &Gauges, lane: u64, row: Row) -> u32 {
     let (first, _) = ends_of(window);
     let mut found = 0;
     for mark in gauges.marks {
-        if let Kind::Paint { gauge, value } = mark.kind {
+        if let MarkKind::Paint { gauge, value } = mark.kind {
             if mark.lane == lane && row == Row::Gauge(gauge) && nanos(mark.time) < first {
                 found = value;
             }

@@ -24,7 +24,7 @@ mod view;
 
 pub use group::{Group, Place, Row, Scale, groups};
 pub use label::push_escaped;
-pub use mark::{Kind, Mark, Moment, TRAVERSAL, marks};
+pub use mark::{Mark, MarkKind, Moment, TRAVERSAL, marks};
 pub use perfetto::{naming, perfetto_text, put_counted, put_number, put_slice, put_text};
 pub use picture::{Form, Picture, picture_of};
 pub use reader::parse_report;

@@ -3,7 +3,7 @@ use crate::report::{Act, Fates, Past, Run};
 
 /// What one line says.
 #[derive(Clone, Copy)]
-pub enum Line {
+pub enum ReportLine {
     /// The first line, with the edition.
     Title(u32),
     /// The line of the looper with this number.

@@ -6,7 +6,7 @@ ghost use Rattle.run_picture.specs.Reading.{callback, subject};
 ghost use Rattle.run_picture.specs.Lines as says;
 ghost use Rattle.run_picture.specs.Lines.{line_of, rows, fates_of};
 
-use crate::line::Line;
+use crate::line::ReportLine;
 use crate::report::{Act, Fates, Past, Run, Subject};
 use line_words::{Words, number};
 
@@ -38,13 +38,13 @@ fn subject(words: &mut Words) -> Option<Subject>
 
 /// The line of a dispatch at this time.
 #[tactic(auto, unfolding(crate::specs::Lines::dispatch))]
-fn dispatch(now: u64, words: &mut Words) -> Option<Line>
+fn dispatch(now: u64, words: &mut Words) -> Option<ReportLine>
     ensures { result ≡ says.dispatch now words.old }
 {
     let number = words.counted(b"dispatch")?;
     let handler = words.short()?;
     let subject = subject(words)?;
-    words.whole(Line::Past(Past::Dispatch {
+    words.whole(ReportLine::Past(Past::Dispatch {
         now,
         number,
         handler,
@@ -53,13 +53,13 @@ fn dispatch(now: u64, words: &mut Words) -> Option<Line>
 }
 
 #[tactic(auto, unfolding(crate::specs::Lines::refused_line))]
-fn refused(words: &mut Words) -> Option<Line>
+fn refused(words: &mut Words) -> Option<ReportLine>
     ensures { result ≡ says.refused_line words.old }
 {
     let handler = words.short()?;
     let subject = subject(words)?;
     let place = words.counted(b"quit")?;
-    words.whole(Line::Past(Past::Refused {
+    words.whole(ReportLine::Past(Past::Refused {
         handler,
         subject,
         place,
@@ -100,33 +100,33 @@ fn adds_up(fates: &Fates) -> bool
 }
 
 #[tactic(auto, unfolding(crate::specs::Lines::fates_said))]
-fn fates(words: &mut Words) -> Option<Line>
+fn fates(words: &mut Words) -> Option<ReportLine>
     ensures { result ≡ says.fates_said words.old }
 {
     let fates = fates_of(words)?;
     if adds_up(&fates) {
-        words.whole(Line::Fates(fates))
+        words.whole(ReportLine::Fates(fates))
     } else {
         None
     }
 }
 
 #[tactic(auto, unfolding(crate::specs::Lines::title))]
-fn title(words: &mut Words) -> Option<Line>
+fn title(words: &mut Words) -> Option<ReportLine>
     ensures { result ≡ says.title words.old }
 {
     let edition = words.short()?;
     if edition == 1 {
-        return words.whole(Line::Title(edition));
+        return words.whole(ReportLine::Title(edition));
     }
     if edition == 2 {
-        return words.whole(Line::Title(edition));
+        return words.whole(ReportLine::Title(edition));
     }
     None
 }
 
 /// A line that begins with this word.
-fn named(word: &[u8], words: &mut Words) -> Option<Line>
+fn named(word: &[u8], words: &mut Words) -> Option<ReportLine>
     ensures { result ≡ by_word rows word.now words.old }
 {
     if word == b"refused".as_slice() {
@@ -134,57 +134,57 @@ fn named(word: &[u8], words: &mut Words) -> Option<Line>
     }
     if word == b"not-posted".as_slice() {
         let token = words.long()?;
-        return words.whole(Line::Past(Past::NotPosted { token }));
+        return words.whole(ReportLine::Past(Past::NotPosted { token }));
     }
     if word == b"not-allowed".as_slice() {
-        return words.whole(Line::Past(Past::NotAllowed));
+        return words.whole(ReportLine::Past(Past::NotAllowed));
     }
     if word == b"already-quit".as_slice() {
         let place = words.long()?;
-        return words.whole(Line::Past(Past::AlreadyQuit { place }));
+        return words.whole(ReportLine::Past(Past::AlreadyQuit { place }));
     }
     if word == b"fates".as_slice() {
         return fates(words);
     }
     if word == b"idle".as_slice() {
         let id = words.short()?;
-        return words.whole(Line::Act(Act::Idle { id }));
+        return words.whole(ReportLine::Act(Act::Idle { id }));
     }
     if word == b"event".as_slice() {
         let fd = words.short()?;
         let events = words.short()?;
-        return words.whole(Line::Act(Act::Event { fd, events }));
+        return words.whole(ReportLine::Act(Act::Event { fd, events }));
     }
     if word == b"paint".as_slice() {
         let gauge = words.short()?;
         let value = words.short()?;
-        return words.whole(Line::Act(Act::Paint { gauge, value }));
+        return words.whole(ReportLine::Act(Act::Paint { gauge, value }));
     }
     if word == b"frame".as_slice() {
         let time = words.long()?;
-        return words.whole(Line::Frame(time));
+        return words.whole(ReportLine::Frame(time));
     }
     if word == b"run".as_slice() {
         let phase = words.short()?;
         let id = words.long()?;
-        return words.whole(Line::Run(Run { phase, id }));
+        return words.whole(ReportLine::Run(Run { phase, id }));
     }
     if word == b"looper".as_slice() {
         let number = words.long()?;
-        return words.whole(Line::Looper(number));
+        return words.whole(ReportLine::Looper(number));
     }
     if word == b"report".as_slice() {
         return title(words);
     }
     if word == b"end".as_slice() {
-        return words.whole(Line::End);
+        return words.whole(ReportLine::End);
     }
     None
 }
 
 /// What a line says, without its line feed. Only that of a dispatch begins with a number.
 #[tactic(auto, unfolding(crate::specs::Lines::line_of))]
-pub(crate) fn line_of(line: &[u8]) -> Option<Line>
+pub(crate) fn line_of(line: &[u8]) -> Option<ReportLine>
     ensures { result ≡ line_of (words line.now) }
 {
     let mut words = Words::new(line);

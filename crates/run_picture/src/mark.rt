@@ -9,7 +9,7 @@ use std::alloc::Global;
 
 /// What a mark shows.
 #[derive(Clone, Copy, Debug, PartialEq, Eq)]
-pub enum Kind {
+pub enum MarkKind {
     /// The message of this number was taken for its handler.
     Dispatch {
         number: u64,
@@ -44,7 +44,7 @@ pub struct Mark {
     /// When it was.
     pub time: Moment,
     /// What was done.
-    pub kind: Kind,
+    pub kind: MarkKind,
 }
 
 /// The identity of the callback that paints a looper's gauges (this project's profile).
@@ -78,7 +78,7 @@ pub(crate) fn moment_of(time: u64) -> Moment
     }
 }
 
-fn frame_mark(lane: u64, time: u64, kind: Kind) -> Mark
+fn frame_mark(lane: u64, time: u64, kind: MarkKind) -> Mark
     ensures { result ≡ frame_mark lane time kind }
 {
     Mark {
@@ -104,7 +104,7 @@ fn push_past(out: &mut Vec<Mark>, lane: u64, past: Past) -> Result<(), NoMemory>
                 millis: now,
                 nanos: 0,
             },
-            kind: Kind::Dispatch {
+            kind: MarkKind::Dispatch {
                 number,
                 handler,
                 subject,
@@ -133,7 +133,7 @@ fn push_runs(out: &mut Vec<Mark>, lane: u64, time: u64, runs: &[Run]) -> Result<
     ensures { OnOk result (out.new.items ≡ out.old.items ++ flat_map (run_mark lane time) runs.now) }
 {
     for run in runs {
-        out.push(frame_mark(lane, time, Kind::Run(*run)))?;
+        out.push(frame_mark(lane, time, MarkKind::Run(*run)))?;
     }
     Ok(())
 }
@@ -143,7 +143,7 @@ fn push_runs(out: &mut Vec<Mark>, lane: u64, time: u64, runs: &[Run]) -> Result<
 fn push_frame(out: &mut Vec<Mark>, lane: u64, frame: &Frame) -> Result<(), NoMemory>
     ensures { OnOk result (out.new.items ≡ out.old.items ++ frame_marks lane frame.now) }
 {
-    out.push(frame_mark(lane, frame.time, Kind::Frame))?;
+    out.push(frame_mark(lane, frame.time, MarkKind::Frame))?;
     push_runs(out, lane, frame.time, frame.runs.as_slice())
 }
 
@@ -222,7 +222,7 @@ fn push_act(
     match act {
         Act::Paint { gauge, value } => {
             *group = joined(*group, times, gauge);
-            out.push(frame_mark(lane, group.time, Kind::Paint { gauge, value }))?;
+            out.push(frame_mark(lane, group.time, MarkKind::Paint { gauge, value }))?;
         }
         Act::Idle { .. } => {}
         Act::Event { .. } => {}

@@ -5,7 +5,7 @@ ghost use Rattle.serde_json.specs.View.{items_of, members_view, view};
 ghost use Rattle.serde_json.specs.Written.{compact_text};
 ghost use Rattle.run_picture.specs.Events.{Traces, argued, count, event, kind_members, kind_name, micros, moment_members, naming, phased, process, slice, thread, threads_from, trace};
 
-use crate::mark::{Kind, Mark, Moment, marks};
+use crate::mark::{Mark, MarkKind, Moment, marks};
 use crate::report::{Looper, Report, Subject};
 use crate::scale::period_of;
 use loop_model::NoMemory;
@@ -84,11 +84,11 @@ pub fn put_counted(
 }
 
 /// The name of a mark's slice or counter.
-fn name_of(alloc: Global, lane: u64, kind: Kind) -> Result<String, NoMemory>
+fn name_of(alloc: Global, lane: u64, kind: MarkKind) -> Result<String, NoMemory>
     ensures { IfOk result (λ name. string_bytes name ≡ kind_name lane kind) }
 {
     let name = match kind {
-        Kind::Dispatch {
+        MarkKind::Dispatch {
             handler,
             subject,
             ..
@@ -98,13 +98,13 @@ fn name_of(alloc: Global, lane: u64, kind: Kind) -> Result<String, NoMemory>
                 "handler {handler} callback {callback}"
             )?,
         },
-        Kind::Frame => String::from_str(alloc, "frame")?,
-        Kind::Run(run) => {
+        MarkKind::Frame => String::from_str(alloc, "frame")?,
+        MarkKind::Run(run) => {
             let phase = run.phase;
             let id = run.id;
             format!(in alloc; "phase {phase} callback {id}")?
         }
-        Kind::Paint { gauge, .. } => format!(in alloc; "looper {lane} gauge {gauge}")?,
+        MarkKind::Paint { gauge, .. } => format!(in alloc; "looper {lane} gauge {gauge}")?,
     };
     Ok(name)
 }
@@ -144,19 +144,19 @@ pub fn put_slice(
 fn put_kind(
     alloc: Global,
     members: &mut Map<String, Value>,
-    kind: Kind,
+    kind: MarkKind,
     period: u64,
 ) -> Result<(), NoMemory>
     ensures { OnOk result (members_view members.new.entries ≡ kind_members period kind (members_view members.old.entries)) }
 {
     match kind {
-        Kind::Dispatch { number, .. } => {
+        MarkKind::Dispatch { number, .. } => {
             put_slice(alloc, members, SHORTEST)?;
             put_counted(alloc, members, "number", number)
         }
-        Kind::Frame => put_slice(alloc, members, period),
-        Kind::Run(_) => put_slice(alloc, members, SHORTEST),
-        Kind::Paint { value, .. } => {
+        MarkKind::Frame => put_slice(alloc, members, period),
+        MarkKind::Run(_) => put_slice(alloc, members, SHORTEST),
+        MarkKind::Paint { value, .. } => {
             put_phase(alloc, members, "C")?;
             put_counted(alloc, members, "value", u64::from(value))
         }

@@ -3,7 +3,7 @@ ghost use Rattle.std.specs.Prelude.{◌≡◌, ◌∷◌};
 ghost use Rattle.run_picture.specs.Rows.{IsRowOf, StandsBehind, depth, last_painted, level, shared, value};
 
 use crate::group::{Group, Row};
-use crate::mark::{Kind, Mark};
+use crate::mark::{Mark, MarkKind};
 
 /// Where a row stands.
 #[derive(Clone, Copy)]
@@ -61,14 +61,14 @@ pub(crate) fn shelf_of(last: Option<Shelf>, group: &Group, top: u64) -> Shelf
 }
 
 /// The value that a mark shows.
-fn value(kind: Kind) -> u32
+fn value(kind: MarkKind) -> u32
     ensures { result ≡ value kind }
 {
     match kind {
-        Kind::Paint { value, .. } => value,
-        Kind::Dispatch { .. } => 0,
-        Kind::Frame => 0,
-        Kind::Run(_) => 0,
+        MarkKind::Paint { value, .. } => value,
+        MarkKind::Dispatch { .. } => 0,
+        MarkKind::Frame => 0,
+        MarkKind::Run(_) => 0,
     }
 }
 

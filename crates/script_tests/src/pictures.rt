@@ -1,6 +1,6 @@
 //! Reports with their marks, and texts that are no reports, as tables.
 use run_picture::{
-    Form, Kind, Mark, Moment, ParsedReport, Picture, Run, Subject, USUAL_WIDTH, View, marks,
+    Form, Mark, MarkKind, Moment, ParsedReport, Picture, Run, Subject, USUAL_WIDTH, View, marks,
     parse_report, picture_of,
 };
 use std::alloc::Global;
@@ -51,7 +51,7 @@ const MOVES_MARKS: [Mark; 5] = [
             millis: 17,
             nanos: 0,
         },
-        kind: Kind::Dispatch {
+        kind: MarkKind::Dispatch {
             number: 1,
             handler: 2,
             subject: Subject::What(5),
@@ -60,12 +60,12 @@ const MOVES_MARKS: [Mark; 5] = [
     Mark {
         lane: 0,
         time: FIRST,
-        kind: Kind::Frame,
+        kind: MarkKind::Frame,
     },
     Mark {
         lane: 0,
         time: FIRST,
-        kind: Kind::Run(Run {
+        kind: MarkKind::Run(Run {
             phase: 2,
             id: 1_000_016,
         }),
@@ -76,12 +76,12 @@ const MOVES_MARKS: [Mark; 5] = [
             millis: 33,
             nanos: 333_334,
         },
-        kind: Kind::Frame,
+        kind: MarkKind::Frame,
     },
     Mark {
         lane: 0,
         time: FIRST,
-        kind: Kind::Paint { gauge: 0, value: 7 },
+        kind: MarkKind::Paint { gauge: 0, value: 7 },
     },
 ];
 
@@ -91,7 +91,7 @@ const TWO_MARKS: [Mark; 1] = [Mark {
         millis: 5,
         nanos: 0,
     },
-    kind: Kind::Dispatch {
+    kind: MarkKind::Dispatch {
         number: 0,
         handler: 1,
         subject: Subject::Callback(9),

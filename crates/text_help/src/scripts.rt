@@ -9,7 +9,7 @@ use crate::form::{Form, write_form};
 use crate::lines::{Lines, lines_of, word_at, write_line};
 use crate::said::Said;
 use crate::shape::{write_form_fault, write_next, write_stop};
-use dash_script::{Cause, Kind, Numbers, Parsed, Part, Role, Script, Slot, parse, phase_count};
+use dash_script::{Cause, LineKind, Numbers, Parsed, Part, Role, Script, Slot, parse, phase_count};
 use loop_model::NoMemory;
 use std::alloc::Global;
 use std::fmt::Write;
@@ -203,7 +203,7 @@ fn write_form_reason(
 }
 
 /// The word of the line that is the number at this place among its numbers, and the name that the form shows for it.
-fn named(kind: Kind, place: usize) -> (&'static str, usize) {
+fn named(kind: LineKind, place: usize) -> (&'static str, usize) {
     let mut numbers = 0;
     for (word, slot) in kind.form().iter().enumerate() {
         if let Slot::Number(_) = slot {
@@ -217,7 +217,7 @@ fn named(kind: Kind, place: usize) -> (&'static str, usize) {
 }
 
 /// The role of the number at this place among the numbers of a line of this kind.
-fn role_at(kind: Kind, place: usize) -> Option<Role> {
+fn role_at(kind: LineKind, place: usize) -> Option<Role> {
     let mut numbers = 0;
     for (word, slot) in kind.form().iter().enumerate() {
         if let Slot::Number(role) = slot {
@@ -242,7 +242,7 @@ fn limits_of(role: Role, edition: u32) -> Option<(u64, u64)> {
 fn write_range(
     out: &mut String,
     edition: u32,
-    kind: Kind,
+    kind: LineKind,
     numbers: &Numbers,
     line: &[u8],
 ) -> Result<(), NoMemory> {
@@ -283,7 +283,7 @@ fn declared_as(declared: &Declared, role: Role) -> Option<(&'static str, u64)> {
 fn write_unknown(
     out: &mut String,
     declared: &Declared,
-    kind: Kind,
+    kind: LineKind,
     numbers: &Numbers,
     line: &[u8],
 ) -> Result<(), NoMemory> {
@@ -329,7 +329,7 @@ fn barrier_line(before: &[&[u8]], thread: u64, label: u64) -> Option<usize> {
     for (place, line) in before.iter().enumerate() {
         if let Some((kind, numbers)) = kind_of(line) {
             let same = numbers.at(0) == thread && numbers.at(2) == label;
-            if kind == Kind::Barrier && same {
+            if kind == LineKind::Barrier && same {
                 return Some(place.saturating_add(1));
             }
         }
@@ -341,20 +341,20 @@ fn write_order(
     out: &mut String,
     declared: &Declared,
     before: &[&[u8]],
-    kind: Kind,
+    kind: LineKind,
     numbers: &Numbers,
 ) -> Result<(), NoMemory> {
     let time = declared.time.unwrap_or(0);
     match kind {
-        Kind::Handler => write_next(out, "handlers", declared.handlers)?,
-        Kind::AsyncHandler => write_next(out, "handlers", declared.handlers)?,
-        Kind::Gauge => write_next(out, "gauges", declared.gauges.len() as u64)?,
-        Kind::At => writeln!(
+        LineKind::Handler => write_next(out, "handlers", declared.handlers)?,
+        LineKind::AsyncHandler => write_next(out, "handlers", declared.handlers)?,
+        LineKind::Gauge => write_next(out, "gauges", declared.gauges.len() as u64)?,
+        LineKind::At => writeln!(
             out,
             "times rise; the block before is at {time}, so T is above {time}"
         )?,
-        Kind::End => writeln!(out, "the last block is at {time}, so T is at least {time}")?,
-        Kind::Barrier => {
+        LineKind::End => writeln!(out, "the last block is at {time}, so T is at least {time}")?,
+        LineKind::Barrier => {
             let thread = numbers.at(0);
             let label = numbers.at(2);
             write!(out, "thread {thread} has used label {label} before")?;
@@ -377,18 +377,18 @@ fn write_so_far(out: &mut String, sum: u64, more: u64) -> Result<(), NoMemory> {
 fn write_too_many(
     out: &mut String,
     declared: &Declared,
-    kind: Kind,
+    kind: LineKind,
     numbers: &Numbers,
 ) -> Result<(), NoMemory> {
     match kind {
-        Kind::Handler => out.push_str("there are at most 64 handlers\n")?,
-        Kind::AsyncHandler => out.push_str("there are at most 64 handlers\n")?,
-        Kind::Gauge => out.push_str("there are at most 16 gauges\n")?,
-        Kind::Rule => {
+        LineKind::Handler => out.push_str("there are at most 64 handlers\n")?,
+        LineKind::AsyncHandler => out.push_str("there are at most 64 handlers\n")?,
+        LineKind::Gauge => out.push_str("there are at most 16 gauges\n")?,
+        LineKind::Rule => {
             out.push_str("the N of all `on` lines add up to at most 100000; ")?;
             write_so_far(out, declared.reactions, numbers.at(2))?;
         }
-        Kind::Set => {
+        LineKind::Set => {
             let more = declared.steps_of(numbers.at(1));
             out.push_str("1000 by STEP of all `set` lines add up to at most 100000; ")?;
             write_so_far(out, declared.steps, more)?;
@@ -433,18 +433,18 @@ impl Declared {
         }
     }
 
-    fn add(&mut self, kind: Kind, numbers: &Numbers) -> Result<(), NoMemory> {
+    fn add(&mut self, kind: LineKind, numbers: &Numbers) -> Result<(), NoMemory> {
         match kind {
-            Kind::Edition1 => self.edition = 1,
-            Kind::Edition2 => self.edition = 2,
-            Kind::Loopers => self.loopers = numbers.at(0),
-            Kind::Threads => self.threads = numbers.at(0),
-            Kind::Handler => self.handlers = self.handlers.saturating_add(1),
-            Kind::AsyncHandler => self.handlers = self.handlers.saturating_add(1),
-            Kind::Gauge => self.gauges.push(numbers.at(2))?,
-            Kind::Rule => self.reactions = self.reactions.saturating_add(numbers.at(2)),
-            Kind::At => self.time = Some(numbers.at(0)),
-            Kind::Set => self.steps = self.steps.saturating_add(self.steps_of(numbers.at(1))),
+            LineKind::Edition1 => self.edition = 1,
+            LineKind::Edition2 => self.edition = 2,
+            LineKind::Loopers => self.loopers = numbers.at(0),
+            LineKind::Threads => self.threads = numbers.at(0),
+            LineKind::Handler => self.handlers = self.handlers.saturating_add(1),
+            LineKind::AsyncHandler => self.handlers = self.handlers.saturating_add(1),
+            LineKind::Gauge => self.gauges.push(numbers.at(2))?,
+            LineKind::Rule => self.reactions = self.reactions.saturating_add(numbers.at(2)),
+            LineKind::At => self.time = Some(numbers.at(0)),
+            LineKind::Set => self.steps = self.steps.saturating_add(self.steps_of(numbers.at(1))),
             _ => {}
         }
         self.last = kind.part();

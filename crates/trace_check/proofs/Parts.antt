@@ -6,7 +6,7 @@ use Rattle.std.proofs.lemmas.List.Concat.{flat_map-append}
 use Rattle.loop_model.specs.declared.entry.Entry.{Entry as EntryData}
 use Rattle.loop_model.specs.declared.segment.Segment.{Segment}
 use Rattle.loop_model.specs.Chain.{entries_of}
-use Rattle.trace_check.specs.declared.line.Line.TheVariants.{Entry}
+use Rattle.trace_check.specs.declared.line.TraceLine.TheVariants.{Entry}
 use Rattle.trace_check.specs.Text.{trace_line_text}
 
 -- with one part more

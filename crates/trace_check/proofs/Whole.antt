@@ -16,8 +16,8 @@ use Rattle.line_words.specs.Answers.{Finds, FindsAll, Names}
 use Rattle.line_words.specs.RefusedReading.{read_from, read_text}
 use Rattle.line_words.proofs.Refusing.{answer, failed}
 use Rattle.line_words.proofs.LineReading.{run, run_on, Continues, IsForm, plain_ended, plain_stopped, text_found, text_only, text_never, text_bad}
-use Rattle.trace_check.specs.declared.line.Line.{Line}
-use Rattle.trace_check.specs.declared.line.Line.TheVariants.{Title, Queue, Entry, End}
+use Rattle.trace_check.specs.declared.line.TraceLine.{TraceLine}
+use Rattle.trace_check.specs.declared.line.TraceLine.TheVariants.{Title, Queue, Entry, End}
 use Rattle.trace_check.specs.declared.draft.Part.{Part}
 use Rattle.trace_check.specs.declared.draft.Part.TheVariants as part_of
 use Rattle.trace_check.specs.declared.draft.Draft.{Draft}
@@ -25,6 +25,7 @@ use Rattle.trace_check.specs.declared.trace.Trace.{Trace}
 use Rattle.trace_check.specs.declared.trace.ParsedTrace.TheVariants as parsed
 use Rattle.std.specs.List.{join_with_byte}
 use Rattle.line_words.specs.Words.{words, spelled_number}
+use Rattle.line_words.specs.Written.{spelled_words}
 use Rattle.line_words.specs.Taking.{short, long}
 use Rattle.trace_check.specs.Line.{trace_line_words, FitsLine}
 use Rattle.trace_check.specs.Text.{queue_head, queue_lines, trace_lines, trace_line_text, IsLeastBadOfTrace, IsTraceText}
@@ -34,25 +35,25 @@ use Rattle.line_words.proofs.Wording.{AreWords, words_again, words_taken, no_fee
 use Rattle.trace_check.proofs.Taken.{line_taken}
 use Rattle.trace_check.proofs.Again.{line_again, line_are}
 
-abbrev AllFits : List Line → Type 0
+abbrev AllFits : List TraceLine → Type 0
 AllFits ls = AllByRecursion FitsLine ls
 
 -- ---- one line
 
 -- the bytes of a line, without its line feed
-abbrev bytes_of : Line → List ℕ
-bytes_of l = join_with_byte 32 (trace_line_words l)
+abbrev bytes_of : TraceLine → List ℕ
+bytes_of l = join_with_byte 32 (spelled_words (trace_line_words l))
 
-fed : (l : Line) → trace_line_text l ≡ bytes_of l ++ 10 ∷ []
+fed : (l : TraceLine) → trace_line_text l ≡ bytes_of l ++ 10 ∷ []
 unfolding trace_line_text
 fed l = refl
 
-words_said : (l : Line) (w : List ℕ) (ws : List (List ℕ)) → trace_line_words l ≡ w ∷ ws → FitsLine l → line_of (words (bytes_of l)) ≡ Some l
+words_said : (l : TraceLine) (w : List ℕ) (ws : List (List ℕ)) → spelled_words (trace_line_words l) ≡ w ∷ ws → FitsLine l → line_of (words (bytes_of l)) ≡ Some l
 words_said l w ws e fit =
     let all : AreWords (w ∷ ws) = subst AreWords e (line_are l fit) in
     ap (λ v. line_of (words (join_with_byte 32 v))) e ∙ ap line_of (words_again w ws all) ∙ ap line_of (sym e) ∙ line_again l fit
 
-read_again : (l : Line) → FitsLine l → line_of (words (bytes_of l)) ≡ Some l
+read_again : (l : TraceLine) → FitsLine l → line_of (words (bytes_of l)) ≡ Some l
 read_again Title fit = words_said Title _ _ refl fit
 read_again (Queue h) fit = words_said (Queue h) _ _ refl fit
 read_again (Entry e) fit = words_said (Entry e) _ _ refl fit
@@ -61,17 +62,17 @@ read_again End fit = words_said End _ _ refl fit
 -- ---- the lines of a draft
 
 -- a queue that has entries to come
-abbrev open_lines : Draft → List Line
+abbrev open_lines : Draft → List TraceLine
 open_lines d = Queue (queue_head d.current (length d.current.entries + d.left)) ∷ map Entry d.current.entries
 
-abbrev current_lines : Draft → List Line
+abbrev current_lines : Draft → List TraceLine
 current_lines d = cond (eqb d.left 0) [] (open_lines d)
 
-abbrev front_lines : Draft → List Line
+abbrev front_lines : Draft → List TraceLine
 front_lines d = Title ∷ flat_map queue_lines d.queues
 
 -- the lines that make the draft
-abbrev so_far : Part → Draft → List Line
+abbrev so_far : Part → Draft → List TraceLine
 so_far part_of.Start d = []
 so_far part_of.Body d = front_lines d ++ current_lines d
 so_far part_of.End d = front_lines d ++ End ∷ []
@@ -100,10 +101,10 @@ settled_lines d body =
           subst (λ (x : Draft). (so_far x.part x ≡ front_lines d ++ open_lines d) × IsSound x.part x) (sym is) (rw body (whole, tt))
     ]
 
-abbrev Grown : List Line → Line → Draft → Type 0
+abbrev Grown : List TraceLine → TraceLine → Draft → Type 0
 Grown ls l e = (ls ++ l ∷ [] ≡ so_far e.part e) × IsSound e.part e
 
-start_grows : (d e : Draft) (l : Line) → IsSound part_of.Start d → after_part part_of.Start d l ≡ Some e → Grown [] l e
+start_grows : (d e : Draft) (l : TraceLine) → IsSound part_of.Start d → after_part part_of.Start d l ≡ Some e → Grown [] l e
 start_grows d e Title sound h =
     let made : Draft = record d { part = part_of.Body } in
     let lines_are : Title ∷ [] ≡ front_lines made ++ current_lines made = rw (sound.0, sound.1) refl in
@@ -112,7 +113,7 @@ start_grows d e (Queue h) sound g = absurd (none-some e g)
 start_grows d e (Entry x) sound g = absurd (none-some e g)
 start_grows d e End sound g = absurd (none-some e g)
 
-queues_grow : (d e : Draft) (l : Line) (ls : List Line) → d.part ≡ part_of.Body → ls ≡ front_lines d → after_part part_of.Body (record d { left = 0 }) l ≡ Some e → Grown ls l e
+queues_grow : (d e : Draft) (l : TraceLine) (ls : List TraceLine) → d.part ≡ part_of.Body → ls ≡ front_lines d → after_part part_of.Body (record d { left = 0 }) l ≡ Some e → Grown ls l e
 queues_grow d e Title ls body is h = absurd (none-some e h)
 queues_grow d e (Queue head) ls body is h =
     let made : Draft = record d { current = opened head; left = head.count } in
@@ -125,7 +126,7 @@ queues_grow d e End ls body is h =
     let made : Draft = record d { part = part_of.End; left = 0 } in
     subst (Grown ls End) (same_Some made e h) (ap (λ x. x ++ End ∷ []) is, tt)
 
-entries_grow : (d e : Draft) (l : Line) (ls : List Line) → d.part ≡ part_of.Body → eqb d.left 0 ≡ false → ls ≡ front_lines d ++ open_lines d → after_part part_of.Body d l ≡ Some e → Grown ls l e
+entries_grow : (d e : Draft) (l : TraceLine) (ls : List TraceLine) → d.part ≡ part_of.Body → eqb d.left 0 ≡ false → ls ≡ front_lines d ++ open_lines d → after_part part_of.Body d l ≡ Some e → Grown ls l e
 entries_grow d e Title ls body some is h = absurd (none-some e (rw some at h))
 entries_grow d e (Queue x) ls body some is h = absurd (none-some e (rw some at h))
 entries_grow d e End ls body some is h = absurd (none-some e (rw some at h))
@@ -142,7 +143,7 @@ entries_grow d e (Entry x) ls body some is h =
     let same : settled made ≡ e = same_Some (settled made) e (rw some at h) in
     subst (Grown ls (Entry x)) same (lines_are, s.1)
 
-grows : (p : Part) (d e : Draft) (l : Line) (ls : List Line) → d.part ≡ p → ls ≡ so_far p d → IsSound p d → after_part p d l ≡ Some e → Grown ls l e
+grows : (p : Part) (d e : Draft) (l : TraceLine) (ls : List TraceLine) → d.part ≡ p → ls ≡ so_far p d → IsSound p d → after_part p d l ≡ Some e → Grown ls l e
 grows part_of.Start d e l ls is written sound h = subst (λ x. Grown x l e) (sym written) (start_grows d e l sound h)
 grows part_of.End d e l ls is written sound h = absurd (none-some e h)
 grows part_of.Body d e l ls is written sound h =
@@ -155,11 +156,11 @@ grows part_of.Body d e l ls is written sound h =
     ]
 
 -- after these lines the draft stands so
-record Stands (d : Draft) (ls : List Line) : Type 0 where
+record Stands (d : Draft) (ls : List TraceLine) : Type 0 where
   pub written : ls ≡ so_far d.part d
   pub sound : IsSound d.part d
 
-stands_on : (d e : Draft) (l : Line) (ls : List Line) → Stands d ls → next d l ≡ Some e → Stands e (ls ++ l ∷ [])
+stands_on : (d e : Draft) (l : TraceLine) (ls : List TraceLine) → Stands d ls → next d l ≡ Some e → Stands e (ls ++ l ∷ [])
 unfolding next
 stands_on d e l ls s h =
     let g = grows d.part d e l ls refl s.written s.sound h in
@@ -180,16 +181,16 @@ fill_counted (suc n) = let h = fill_counted n in omega (arith, h)
 fill_fits : (n : ℕ) → AllFits (map Entry (fill n))
 unfolding fill
 fill_fits zero = tt
-fill_fits (suc n) = ((omega arith, omega arith, omega arith, tt), fill_fits n)
+fill_fits (suc n) = ((omega arith, (omega arith, (tt, (omega arith, (tt, tt))))), fill_fits n)
 
-continues : (p : Part) (d : Draft) (ls : List Line) → ls ≡ so_far p d → Continues FitsLine trace_lines ls
-continues part_of.Start d ls written = (record { queues = [] }, Title ∷ End ∷ [], ap (λ x. x ++ Title ∷ End ∷ []) written, (tt, (tt, tt)))
+continues : (p : Part) (d : Draft) (ls : List TraceLine) → ls ≡ so_far p d → Continues FitsLine trace_lines ls
+continues part_of.Start d ls written = (record { queues = [] }, Title ∷ End ∷ [], ap (λ x. x ++ Title ∷ End ∷ []) written, ((tt, (tt, tt)), ((tt, tt), tt)))
 continues part_of.End d ls written = (trace_so_far d, [], append-nil ls ∙ written, tt)
 continues part_of.Body d ls written =
     elim (cases_Bool (eqb d.left 0)) [
       | inl none ↦
           let lines_are : ls ≡ front_lines d = written ∙ (rw none (append-nil (front_lines d))) in
-          (trace_so_far d, End ∷ [], ap (λ x. x ++ End ∷ []) lines_are, (tt, tt))
+          (trace_so_far d, End ∷ [], ap (λ x. x ++ End ∷ []) lines_are, ((tt, tt), tt))
       | inr some ↦
           let lines_are : ls ≡ front_lines d ++ open_lines d = written ∙ (rw some refl) in
           let q : TraceQueue = record d.current { entries = d.current.entries ++ fill d.left } in
@@ -201,7 +202,7 @@ continues part_of.Body d ls written =
           let body : Title ∷ flat_map queue_lines t.queues ≡ ls ++ map Entry (fill d.left) =
           ap (λ x. Title ∷ x) (flat_map-append queue_lines d.queues (q ∷ [])) ∙ ap (λ x. front_lines d ++ x) last ∙ sym (append_assoc (front_lines d) (open_lines d) (map Entry (fill d.left))) ∙ ap (λ x. x ++ map Entry (fill d.left)) (sym lines_are) in
           let whole : ls ++ (map Entry (fill d.left) ++ End ∷ []) ≡ trace_lines t = sym (append_assoc ls (map Entry (fill d.left)) (End ∷ [])) ∙ ap (λ x. x ++ End ∷ []) (sym body) in
-          (t, map Entry (fill d.left) ++ End ∷ [], whole, AllByRecursion-append FitsLine (map Entry (fill d.left)) (End ∷ []) (fill_fits d.left) (tt, tt))
+          (t, map Entry (fill d.left) ++ End ∷ [], whole, AllByRecursion-append FitsLine (map Entry (fill d.left)) (End ∷ []) (fill_fits d.left) ((tt, tt), tt))
     ]
 
 -- ---- lines one after the other
@@ -260,7 +261,7 @@ lines_run t =
 
 -- ---- the whole text
 
-ending : (q : Part) (d : Draft) (ls : List Line) → is_trace_end q ≡ true → ls ≡ so_far q d → ls ≡ trace_lines (trace_so_far d)
+ending : (q : Part) (d : Draft) (ls : List TraceLine) → is_trace_end q ≡ true → ls ≡ so_far q d → ls ≡ trace_lines (trace_so_far d)
 ending part_of.Start d ls e w = absurd cc
 ending part_of.Body d ls e w = absurd cc
 ending part_of.End d ls e w = w
@@ -272,9 +273,9 @@ nothing_said = refl
 form : IsForm reading bytes_of trace_line_text trace_lines FitsLine Stands
 form = record {
   fed = fed;
-  free = λ l fit. no_feed_within (trace_line_words l) (line_are l fit);
+  free = λ l fit. no_feed_within (spelled_words (trace_line_words l)) (line_are l fit);
   again = read_again;
-  taken = λ bytes l is. (let t = line_taken (words bytes) l is in (t.0, words_taken bytes (trace_line_words l) t.1));
+  taken = λ bytes l is. (let t = line_taken (words bytes) l is in (t.0, words_taken bytes (spelled_words (trace_line_words l)) t.1));
   empty = nothing_said;
   leads = λ t. (finished t, lines_run t, refl, refl);
   starts = record { written = refl; sound = (refl, refl) };

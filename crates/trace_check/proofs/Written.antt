@@ -2,7 +2,7 @@
 use Rattle.std.proofs.Common.{◌≡◌, ℕ, List, [], ◌∷◌, ◌++◌, refl, sym, ap, subst, ◌∙◌, append_assoc}
 use Rattle.std.specs.List.{flat_map, join_with_byte}
 use Rattle.std.specs.Fmt.{decimal}
-use Rattle.std.proofs.lemmas.List.{append-nil}
+use Rattle.std.proofs.lemmas.List.{append-nil, map-append}
 use Rattle.std.proofs.lemmas.List.Concat.{flat_map-append}
 use Rattle.loop_model.specs.declared.call.Call.{Call}
 use Rattle.loop_model.specs.declared.call.Call.TheVariants as call
@@ -10,16 +10,18 @@ use Rattle.loop_model.specs.declared.reply.Reply.{Reply}
 use Rattle.loop_model.specs.declared.reply.Reply.TheVariants as reply
 use Rattle.loop_model.specs.declared.entry.Entry.{Entry as EntryData}
 use Rattle.trace_check.specs.declared.trace.TraceQueue.{TraceQueue}
+use Rattle.line_words.specs.Words.{line}
+use Rattle.line_words.specs.Written.{spelled, spelled_words}
 use Rattle.line_words.proofs.Joining.{join_append}
-use Rattle.trace_check.specs.declared.line.Line.TheVariants.{Title, End}
-use Rattle.trace_check.specs.Line.{call_words, reply_words}
+use Rattle.trace_check.specs.declared.line.TraceLine.TheVariants.{Title, Entry, End}
+use Rattle.trace_check.specs.Line.{call_words, reply_words, trace_line_words}
 use Rattle.trace_check.specs.Text.{trace_line_text, queue_lines, trace_text}
 
 -- these are a word and others
 abbrev Some_words : List (List ℕ) → Type 0
 Some_words ws = (w : List ℕ) × (vs : List (List ℕ)) × (ws ≡ w ∷ vs)
 
-call_named : (c : Call) → Some_words (call_words c)
+call_named : (c : Call) → Some_words (spelled_words (call_words c))
 call_named (call.Post p) = (_, _, refl)
 call_named (call.Barrier now) = (_, _, refl)
 call_named (call.Unbarrier token) = (_, _, refl)
@@ -29,7 +31,7 @@ call_named (call.Next now) = (_, _, refl)
 call_named (call.Advance now) = (_, _, refl)
 call_named (call.Halt now) = (_, _, refl)
 
-reply_named : (r : Reply) → Some_words (reply_words r)
+reply_named : (r : Reply) → Some_words (spelled_words (reply_words r))
 reply_named (reply.Accepted n) = (_, _, refl)
 reply_named (reply.Refused place) = (_, _, refl)
 reply_named (reply.Token token) = (_, _, refl)
@@ -60,8 +62,14 @@ joined : (a b : List ℕ) (ws vs : List (List ℕ)) → Some_words ws → Some_w
 joined a b ws vs (x, xs, is) (y, ys, are) = subst (λ l. Joins a b l vs) (sym is) (subst (λ l. Joins a b (x ∷ xs) l) (sym are) (joins a b x xs y ys))
 
 -- the sender, its number, the call and the reply
-pub entry_joined : (e : EntryData) → Joins (decimal e.sender) (decimal e.seq) (call_words e.call) (reply_words e.reply)
-entry_joined e = joined (decimal e.sender) (decimal e.seq) (call_words e.call) (reply_words e.reply) (call_named e.call) (reply_named e.reply)
+pub entry_joined : (e : EntryData)
+    → decimal e.sender ++ (32 ∷ (decimal e.seq ++ (32 ∷ (join_with_byte 32 (spelled_words (call_words e.call)) ++ (32 ∷ (join_with_byte 32 (spelled_words (reply_words e.reply)) ++ 10 ∷ []))))))
+    ≡ line (spelled_words (trace_line_words (Entry e)))
+entry_joined e =
+    let called = spelled_words (call_words e.call) in
+    let replied = spelled_words (reply_words e.reply) in
+    joined (decimal e.sender) (decimal e.seq) called replied (call_named e.call) (reply_named e.reply)
+    ∙ ap (λ ws. line (decimal e.sender ∷ decimal e.seq ∷ ws)) (sym (map-append spelled (call_words e.call) (reply_words e.reply)))
 
 -- the title, the lines of the queues, and the end
 pub whole_text : (qs : List TraceQueue) (a b new : List ℕ) → a ≡ trace_line_text Title → b ≡ a ++ flat_map trace_line_text (flat_map queue_lines qs) → new ≡ b ++ trace_line_text End → new ≡ trace_text (record { queues = qs })

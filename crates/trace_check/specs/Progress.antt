@@ -5,8 +5,8 @@ use Rattle.loop_model.specs.declared.entry.Entry.{Entry as EntryData}
 use Rattle.line_words.specs.LineReading.{Reading, plain}
 use Rattle.line_words.specs.Refusing.{Language}
 use Rattle.trace_check.specs.declared.line.Head.{Head}
-use Rattle.trace_check.specs.declared.line.Line.{Line}
-use Rattle.trace_check.specs.declared.line.Line.TheVariants.{Title, Queue, Entry, End}
+use Rattle.trace_check.specs.declared.line.TraceLine.{TraceLine}
+use Rattle.trace_check.specs.declared.line.TraceLine.TheVariants.{Title, Queue, Entry, End}
 use Rattle.trace_check.specs.declared.draft.Part.{Part}
 use Rattle.trace_check.specs.declared.draft.Part.TheVariants as part_of
 use Rattle.trace_check.specs.declared.draft.Draft.{Draft}
@@ -35,29 +35,29 @@ abbrev pub queue_with_entry : TraceQueue → EntryData → TraceQueue
 queue_with_entry q e = record q { entries = q.entries ++ e ∷ [] }
 
 -- what the first line makes of a draft
-abbrev pub after_start : Draft → Line → Option Draft
+abbrev pub after_start : Draft → TraceLine → Option Draft
 after_start d Title = Some (record d { part = part_of.Body })
 after_start d _ = None
 
 -- what a line makes of a draft whose queues have all their entries
-abbrev pub after_queues : Draft → Line → Option Draft
+abbrev pub after_queues : Draft → TraceLine → Option Draft
 after_queues d (Queue h) = Some (settled (record d { current = opened h; left = h.count }))
 after_queues d End = Some (record d { part = part_of.End })
 after_queues d _ = None
 
 -- what a line makes of a draft whose last queue has entries to come
-abbrev pub after_entries : Draft → Line → Option Draft
+abbrev pub after_entries : Draft → TraceLine → Option Draft
 after_entries d (Entry e) = Some (settled (record d { current = queue_with_entry d.current e; left = d.left - 1 }))
 after_entries d _ = None
 
 -- what a line makes of a draft in this part
-abbrev pub after_part : Part → Draft → Line → Option Draft
+abbrev pub after_part : Part → Draft → TraceLine → Option Draft
 after_part part_of.Start d l = after_start d l
 after_part part_of.Body d l = if d.left == 0 then after_queues d l else after_entries d l
 after_part part_of.End d l = None
 
 -- the draft with one more line, where the line may come next
-unfoldable pub next : Draft → Line → Option Draft
+unfoldable pub next : Draft → TraceLine → Option Draft
 next d l = after_part d.part d l
 
 abbrev pub is_trace_end : Part → Bool
@@ -68,9 +68,9 @@ abbrev pub trace_so_far : Draft → Trace
 trace_so_far d = record { queues = d.queues }
 
 -- how the lines of a trace are read
-abbrev pub reading : Reading Line Draft Trace
+abbrev pub reading : Reading TraceLine Draft Trace
 reading = record { start = start; line_of = λ bytes. line_of (words bytes); next = next; is_end = λ d. is_trace_end d.part; whole = trace_so_far }
 
 -- the language of traces
-abbrev pub trace_language : Language Line Draft Trace (Unit {0})
+abbrev pub trace_language : Language TraceLine Draft Trace (Unit {0})
 trace_language = plain reading

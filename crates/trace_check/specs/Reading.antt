@@ -12,8 +12,8 @@ use Rattle.loop_model.specs.declared.reply.Reply.TheVariants as reply_of
 use Rattle.loop_model.specs.declared.entry.Entry.{Entry as EntryData}
 use Rattle.line_words.specs.Taking.{Rest, and_then, word, by_word, long, short, maybe_long, maybe_short, either, whole}
 use Rattle.trace_check.specs.declared.line.Head.{Head}
-use Rattle.trace_check.specs.declared.line.Line.{Line}
-use Rattle.trace_check.specs.declared.line.Line.TheVariants.{Title, Queue, Entry, End}
+use Rattle.trace_check.specs.declared.line.TraceLine.{TraceLine}
+use Rattle.trace_check.specs.declared.line.TraceLine.TheVariants.{Title, Queue, Entry, End}
 
 -- ---- calls and replies
 
@@ -132,11 +132,11 @@ head rest0 =
     and_then (long rest4) (λ count rest5.
     Some (record { looper = looper; main = main; lockstep = lockstep; senders = senders; count = count }, rest5))))))
 
-unfoldable pub title : Rest → Option (Line × Rest)
+unfoldable pub title : Rest → Option (TraceLine × Rest)
 title rest = and_then (long rest) (λ version more. if version == 1 then Some (Title, more) else None)
 
 -- what a line says whose first word is this; all its words are those of an entry where it is none of three
-abbrev pub line_by : Rest → List ℕ → Rest → Option Line
+abbrev pub line_by : Rest → List ℕ → Rest → Option TraceLine
 line_by ws first rest =
     if bytes_eq first (codes "trace") then and_then (title rest) whole
     else if bytes_eq first (codes "queue") then and_then (head rest) (λ h more. whole (Queue h) more)
@@ -144,5 +144,5 @@ line_by ws first rest =
     else and_then (entry ws) (λ e more. whole (Entry e) more)
 
 -- what the words of a line say
-unfoldable pub line_of : Rest → Option Line
+unfoldable pub line_of : Rest → Option TraceLine
 line_of ws = and_then (word ws) (line_by ws)

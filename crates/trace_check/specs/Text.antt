@@ -6,10 +6,11 @@ use Rattle.loop_model.specs.Chain.{entries_of}
 use Rattle.trace_check.specs.declared.trace.TraceQueue.{TraceQueue}
 use Rattle.line_words.specs.LeastBad.{IsLeastBad}
 use Rattle.trace_check.specs.declared.line.Head.{Head}
-use Rattle.trace_check.specs.declared.line.Line.{Line}
-use Rattle.trace_check.specs.declared.line.Line.TheVariants.{Title, Queue, Entry, End}
+use Rattle.trace_check.specs.declared.line.TraceLine.{TraceLine}
+use Rattle.trace_check.specs.declared.line.TraceLine.TheVariants.{Title, Queue, Entry, End}
 use Rattle.trace_check.specs.declared.trace.Trace.{Trace}
 use Rattle.line_words.specs.Words.{line}
+use Rattle.line_words.specs.Written.{spelled_words}
 use Rattle.trace_check.specs.Line.{trace_line_words, FitsLine}
 
 -- the line of a queue, which has so many entries
@@ -17,16 +18,16 @@ abbrev pub queue_head : TraceQueue → ℕ → Head
 queue_head q count = record { looper = q.looper; main = q.main; lockstep = q.lockstep; senders = q.senders; count = count }
 
 -- the line of a queue, and one for each of its entries
-abbrev pub queue_lines : TraceQueue → List Line
+abbrev pub queue_lines : TraceQueue → List TraceLine
 queue_lines q = Queue (queue_head q (length q.entries)) ∷ map Entry q.entries
 
 -- the lines of a trace
-abbrev pub trace_lines : Trace → List Line
+abbrev pub trace_lines : Trace → List TraceLine
 trace_lines t = (Title ∷ flat_map queue_lines t.queues) ++ End ∷ []
 
 -- how a line is written
-unfoldable pub trace_line_text : Line → List ℕ
-trace_line_text l = line (trace_line_words l)
+unfoldable pub trace_line_text : TraceLine → List ℕ
+trace_line_text l = line (spelled_words (trace_line_words l))
 
 -- the text of a trace
 abbrev pub trace_text : Trace → List ℕ

@@ -3,7 +3,7 @@ ghost use Rattle.std.specs.Prelude.{◌≡◌, ◌<◌, ◌-◌, IfOk, OnOk};
 ghost use Rattle.line_words.specs.LineReading.{answered};
 ghost use Rattle.trace_check.specs.Progress.{after_entries, after_part, after_queues, after_start, blank, opened, settled, queue_with_entry};
 
-use crate::line::{Head, Line};
+use crate::line::{Head, TraceLine};
 use crate::reading::line_of;
 use crate::trace::{Trace, TraceQueue};
 use line_words::{ByLines, Stop};
@@ -83,11 +83,11 @@ impl Draft {
         self.settle(alloc)
     }
 
-    fn add_at_start(&mut self, line: &Line) -> bool
+    fn add_at_start(&mut self, line: &TraceLine) -> bool
         ensures { after_start self.old line.now ≡ answered result self.new }
     {
         match line {
-            Line::Title => {
+            TraceLine::Title => {
                 self.part = Part::Body;
                 true
             }
@@ -95,15 +95,15 @@ impl Draft {
         }
     }
 
-    fn add_to_queues(&mut self, alloc: Global, line: &Line) -> Result<bool, NoMemory>
+    fn add_to_queues(&mut self, alloc: Global, line: &TraceLine) -> Result<bool, NoMemory>
         ensures { IfOk result (λ good. after_queues self.old line.now ≡ answered good self.new) }
     {
         match line {
-            Line::Queue(head) => {
+            TraceLine::Queue(head) => {
                 self.add_queue(alloc, head)?;
                 Ok(true)
             }
-            Line::End => {
+            TraceLine::End => {
                 self.part = Part::End;
                 Ok(true)
             }
@@ -111,12 +111,12 @@ impl Draft {
         }
     }
 
-    fn add_to_entries(&mut self, alloc: Global, line: &Line) -> Result<bool, NoMemory>
+    fn add_to_entries(&mut self, alloc: Global, line: &TraceLine) -> Result<bool, NoMemory>
         requires { 0 < self.old.left }
         ensures { IfOk result (λ good. after_entries self.old line.now ≡ answered good self.new) }
     {
         match line {
-            Line::Entry(entry) => {
+            TraceLine::Entry(entry) => {
                 self.add_entry(alloc, entry)?;
                 Ok(true)
             }
@@ -130,11 +130,11 @@ impl ByLines for Draft {
 
     type Cause = ();
 
-    ghost use Rattle.trace_check.specs.declared.line.Line.{Line};
+    ghost use Rattle.trace_check.specs.declared.line.TraceLine.{TraceLine};
     ghost use Rattle.trace_check.specs.declared.draft.Draft.{Draft};
     ghost use Rattle.trace_check.specs.Progress.{trace_language};
 
-    ghost Said = { Line };
+    ghost Said = { TraceLine };
 
     ghost Held = { Draft };
 

@@ -19,7 +19,7 @@ pub struct Head {
 
 /// What one line says.
 #[derive(Clone, Copy)]
-pub enum Line {
+pub enum TraceLine {
     /// The first line.
     Title,
     /// The line of a queue.

@@ -4,7 +4,7 @@ ghost use Rattle.line_words.specs.Taking.{read};
 ghost use Rattle.line_words.specs.Words.{words};
 ghost use Rattle.trace_check.specs.Reading.{call, call_by, entry, filter, head, kind, kind_by, line_of, post, quit, reply, reply_by, title};
 
-use crate::line::{Head, Line};
+use crate::line::{Head, TraceLine};
 use line_words::Words;
 use loop_model::{Call, Entry, Filter, Kind, Post, Reply};
 
@@ -194,12 +194,12 @@ fn head(words: &mut Words) -> Option<Head>
 
 /// The first line, which names edition 1.
 #[tactic(auto, unfolding(crate::specs::Reading::title))]
-fn title(words: &mut Words) -> Option<Line>
+fn title(words: &mut Words) -> Option<TraceLine>
     ensures { read result words.new ≡ title words.old }
 {
     let edition = words.long()?;
     if edition == 1 {
-        Some(Line::Title)
+        Some(TraceLine::Title)
     } else {
         None
     }
@@ -207,7 +207,7 @@ fn title(words: &mut Words) -> Option<Line>
 
 /// What a line says, without its line feed: one that begins with none of these words is that of an entry.
 #[tactic(auto, unfolding(crate::specs::Reading::line_of))]
-pub(crate) fn line_of(bytes: &[u8]) -> Option<Line>
+pub(crate) fn line_of(bytes: &[u8]) -> Option<TraceLine>
     ensures { result ≡ line_of (words bytes.now) }
 {
     let mut words = Words::new(bytes);
@@ -218,12 +218,12 @@ pub(crate) fn line_of(bytes: &[u8]) -> Option<Line>
     }
     if first == b"queue".as_slice() {
         let head = head(&mut words)?;
-        return words.whole(Line::Queue(head));
+        return words.whole(TraceLine::Queue(head));
     }
     if first == b"end".as_slice() {
-        return words.whole(Line::End);
+        return words.whole(TraceLine::End);
     }
     let mut words = Words::new(bytes);
     let entry = entry(&mut words)?;
-    words.whole(Line::Entry(entry))
+    words.whole(TraceLine::Entry(entry))
 }

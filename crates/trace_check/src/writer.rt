@@ -1,8 +1,8 @@
 //! The text of a trace.
 ghost use Rattle.std.specs.Prelude.{◌≡◌, ◌++◌, ◌∷◌, [], Some, length, map, codes, OnOk, IfOk, string_bytes};
 ghost use Rattle.std.specs.List.{flat_map, join_with_byte};
-ghost use Rattle.trace_check.specs.declared.line.Line.TheVariants as line_of;
-ghost use Rattle.line_words.specs.Words.{maybe, one_of};
+ghost use Rattle.trace_check.specs.declared.line.TraceLine.TheVariants as line_of;
+ghost use Rattle.line_words.specs.Written.{maybe, one_of, spelled_words};
 ghost use Rattle.trace_check.specs.Line.{call_words, post_words, filter_words, reply_words};
 ghost use Rattle.trace_check.specs.Text.{queue_head, trace_line_text, queue_lines, trace_text};
 ghost use Rattle.loop_model.specs.Chain.{entries_of};
@@ -42,7 +42,7 @@ fn one_of(first: &'static str, second: &'static str, is_first: bool) -> &'static
 struct Posted(Post);
 
 impl fmt::Display for Posted {
-    ghost output = { λ s. Some (join_with_byte 32 (post_words s.0)) };
+    ghost output = { λ s. Some (join_with_byte 32 (spelled_words (post_words s.0))) };
 
     fn fmt<W: fmt::Write>(&self, f: &mut fmt::Formatter<W>) -> fmt::Result {
         let post = self.0;
@@ -70,7 +70,7 @@ impl fmt::Display for Posted {
 struct Filtered(Filter);
 
 impl fmt::Display for Filtered {
-    ghost output = { λ s. Some (join_with_byte 32 (filter_words s.0)) };
+    ghost output = { λ s. Some (join_with_byte 32 (spelled_words (filter_words s.0))) };
 
     fn fmt<W: fmt::Write>(&self, f: &mut fmt::Formatter<W>) -> fmt::Result {
         let handler = self.0.handler;
@@ -88,7 +88,7 @@ impl fmt::Display for Filtered {
 struct Called(Call);
 
 impl fmt::Display for Called {
-    ghost output = { λ s. Some (join_with_byte 32 (call_words s.0)) };
+    ghost output = { λ s. Some (join_with_byte 32 (spelled_words (call_words s.0))) };
 
     fn fmt<W: fmt::Write>(&self, f: &mut fmt::Formatter<W>) -> fmt::Result {
         match self.0 {
@@ -109,7 +109,7 @@ impl fmt::Display for Called {
 struct Replied(Reply);
 
 impl fmt::Display for Replied {
-    ghost output = { λ s. Some (join_with_byte 32 (reply_words s.0)) };
+    ghost output = { λ s. Some (join_with_byte 32 (spelled_words (reply_words s.0))) };
 
     fn fmt<W: fmt::Write>(&self, f: &mut fmt::Formatter<W>) -> fmt::Result {
         match self.0 {

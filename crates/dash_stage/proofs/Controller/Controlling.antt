@@ -11,7 +11,7 @@ use Rattle.shared_queue.specs.Known.{Shared, IsOf, IsTurn}
 use Rattle.looper_run.specs.Holding.{Sender, State}
 use Rattle.message_pool.specs.Passes.{Tally}
 use Rattle.dash_hall.specs.Growth.{GoesOn}
-use Rattle.choreographer.specs.declared.kept.Kept.{Kept}
+use Rattle.choreographer.specs.declared.state.StampedFrames.{StampedFrames}
 use Rattle.choreographer.specs.Known.{SharedFrames, Pass, IsPassOf, IsFrameTurn}
 use Rattle.run_model.specs.Planned.{controller}
 use Rattle.dash_hall.specs.declared.hall.Hall.{Hall}
@@ -102,7 +102,7 @@ module _ {lockstep : Bool} {s : Script} {hall : Hall} {i : ℕ} {c : Controller}
   }
 
   -- and so does a turn of one of its passes that changes nothing
-  pub after_frame_turn : {p p' : Pass} {x : Kept} → p ≡ slice_index_or c.kit.frames.items i p → IsFrameTurn p p' x x
+  pub after_frame_turn : {p p' : Pass} {x : StampedFrames} → p ≡ slice_index_or c.kit.frames.items i p → IsFrameTurn p p' x x
       → IsControllerIn lockstep s hall (record { kit = record { posters = c.kit.posters; pass = c.kit.pass; frames = with_item c.kit.frames i p' }; sealed = c.sealed; sealed_frames = c.sealed_frames })
   after_frame_turn {p} {p'} {x} is_p t = record {
     posters = at.controller.posters;

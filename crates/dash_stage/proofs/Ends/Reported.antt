@@ -4,16 +4,13 @@ use Rattle.dash_script.specs.declared.script.Script.{Script}
 use Rattle.run_model.specs.declared.report.Report.{Report}
 use Rattle.run_model.specs.Moments.{Mode, in_lockstep}
 use Rattle.run_model.specs.Run.{IsRun, IsStaged}
-use Rattle.dash_stage.specs.declared.run.Ran.{Ran}
-use Rattle.dash_stage.specs.declared.run.Ran.TheVariants as ran
 use Rattle.dash_stage.specs.declared.stage.Stage.{Stage}
 use Rattle.dash_stage.specs.Keeping.{HoldsKept}
-use Rattle.dash_stage.specs.Outcomes.{Stages, StagesByClock, Reports}
 use Rattle.dash_stage.specs.RunEnds.{HasEndedByClock, HasEndedInLockstep}
 use Rattle.run_model.specs.ByClock.{in_free_mode, IsStagedByClock}
 use Rattle.dash_stage.proofs.Ends.TimelyRecords.{ended_in_step}
 
-staged : (s : Script) (st : Stage) (r : Report) → HasEndedInLockstep s st → HoldsKept s st 0 r → IsStaged s r
+pub staged : (s : Script) (st : Stage) (r : Report) → HasEndedInLockstep s st → HoldsKept s st 0 r → IsStaged s r
 staged s st r out holds =
     let kept = holds.kept in
     let by = ended_in_step s st out in
@@ -32,14 +29,9 @@ staged s st r out holds =
       reached = kept.reached out;
     }
 
--- so is what was answered
-pub run_staged : (s : Script) (st : Stage) (answer : Ran) → HasEndedInLockstep s st → Reports s st 0 answer → Stages s answer
-run_staged s st (ran.Ok r) out holds = staged s st r out holds
-run_staged s st ran.NoMemory out holds = tt
-
 -- by a clock
 module _ (shows : ℕ → Bool) (s : Script) (st : Stage) (start : ℕ) (shown : shows start ≡ true) (out : HasEndedByClock (in_free_mode shows start) s st) where
-  staged_by_clock : (r : Report) → HoldsKept s st start r → IsStagedByClock shows s r
+  pub staged_by_clock : (r : Report) → HoldsKept s st start r → IsStagedByClock shows s r
   staged_by_clock r holds =
       let m : Mode = in_free_mode shows start in
       let kept = holds.kept in
@@ -54,7 +46,3 @@ module _ (shows : ℕ → Bool) (s : Script) (st : Stage) (start : ℕ) (shown :
         timely = record { halted = kept.halted m out.out out.halted; before_quit = kept.before_quit_by_clock m out; histories = tt; moves = tt };
       } in
       record { run = subst (λ (n : ℕ). IsRun (in_free_mode shows n) s r) (sym holds.start) run }
-
-  pub run_staged_by_clock : (answer : Ran) → Reports s st start answer → StagesByClock shows s answer
-  run_staged_by_clock (ran.Ok r) holds = staged_by_clock r holds
-  run_staged_by_clock ran.NoMemory holds = tt

@@ -18,7 +18,7 @@ use Rattle.dash_script.specs.declared.script.Script.{Script}
 use Rattle.run_model.specs.Planned.{Ask, Makes, Unbars, bare_call, call_of, token_in, AreFor, frame_handler, gauge_looper, gauge_line, animation_phase}
 use Rattle.run_model.specs.Planned.{animation_id, traversal_phase, traversal_id, frame_message}
 use Rattle.loop_model.specs.declared.reply.Reply.TheVariants.{Dispatched}
-use Rattle.run_model.specs.Control.{At, NotBefore}
+use Rattle.run_model.specs.Control.{At, Exactly}
 use Rattle.loop_model.specs.Posts.{post_at}
 use Rattle.run_model.specs.Loopers.{LooperState, SentCall, GaugeState, and_sends, stepped_towards, paints, traversal_requested, target_set, object_set, gauge_moved, traversal_ran}
 use Rattle.run_model.specs.Loopers.{callback_ran, fires, reaction, reacted, after_dispatch, and_takes, and_posts_frame, with_gauge, dispatched, after_act, ActsLead}
@@ -161,7 +161,7 @@ module _ (s : Script) (q : ℕ) where
     unfolding after_act
     act_kept frame a (Dispatch n now route) h = dispatched_kept frame n now a (post_at es n) h
     act_kept frame a (Vsync stamp) h =
-        one_more a.sent (record { queue = q; ask = Makes (Post (frame_message q 0 0 (stamp / 1000000))); reply = None; timing = NotBefore (millis_up stamp) }) h (λ other. refl)
+        one_more a.sent (record { queue = q; ask = Makes (Post (frame_message q 0 0 (stamp / 1000000))); reply = None; timing = Exactly (millis_up stamp) }) h (λ other. refl)
     act_kept frame a (Paint g v) h = h
     act_kept frame a (Idle i k) h = h
     act_kept frame a (Event f e m) h = h

@@ -19,7 +19,7 @@ use Rattle.dash_script.specs.Reading.{HasText}
 use Rattle.looper_run.specs.Holding.{Sender}
 use Rattle.looper_run.specs.Round.{is_ended}
 use Rattle.run_model.specs.Planned.{controller, looper_sender, sender_count, entries_by}
-use Rattle.run_model.specs.Control.{Before, Timing, At, InBlock, NotBefore, is_on_time, are_on_time, befores, come_first}
+use Rattle.run_model.specs.Control.{Before, Timing, At, InBlock, Exactly, NotBefore, is_on_time, are_on_time, befores, come_first}
 use Rattle.run_model.specs.Parts.{befores_after, sent_on}
 use Rattle.run_model.specs.Loopers.{LooperState, SentCall}
 use Rattle.run_model.specs.FrameRecords.{asks_in}
@@ -108,13 +108,14 @@ module _ (s : Script) (q time : ℕ) where
 
   module _ (k : ℕ) (began looks : List Entry) (saw : IsSeenThen began looks) where
     met_one : (queue : ℕ) (u : Timing) → IsTimedBy q k looks time queue u → IsMet time time u
-    met_one queue u h = looks_at s q time began looks k time time queue u saw.sound saw.none (inl saw.now) (omega arith) h
+    met_one queue u h = looks_at s q time began looks k time time queue u saw.sound saw.none (inl saw.now) refl h
 
     -- on another queue than its own, a call is timed by a look
     at_one : (r queue : ℕ) (u : Timing) → r ≢ q → IsTimedBy q k looks time queue u → queue ≡ r → u ≡ At time
     at_one r queue (At t) apart h on = ap At (met_one queue (At t) h)
     at_one r queue (InBlock t) apart h on = absurd h
-    at_one r queue (NotBefore t) apart h on = absurd (apart (sym on ∙ h.1))
+    at_one r queue (Exactly t) apart h on = absurd (apart (sym on ∙ h.1))
+    at_one r queue (NotBefore t) apart h on = absurd h
 
     module _ (a b : LooperState) (g : GoesOnTo q k looks time a b) where
       each_timed : AllByRecursion (λ x. IsTimedBy q k looks time x.queue x.timing) g.more

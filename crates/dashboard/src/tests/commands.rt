@@ -6,19 +6,22 @@ use std::process::Abort;
 use std::test::Fail;
 
 /// Words, and the command that they name.
-const NAMED: [(&str, Option<Command>); 37] = [
-    ("run", Some(Command::Run)),
-    ("run --free", Some(Command::RunFree)),
-    ("text", Some(Command::Text)),
-    ("text --to 2", Some(Command::Migrate)),
-    ("make 0", Some(Command::Make { number: 0 })),
-    ("make 4294967295", Some(Command::Make { number: u32::MAX })),
-    ("make 17 --run", Some(Command::MakeRun { number: 17 })),
-    ("make --run 17", Some(Command::MakeRun { number: 17 })),
-    ("trace", Some(Command::Trace)),
-    ("check", Some(Command::Check)),
-    ("animate", Some(Command::Animate)),
-    ("inbox", Some(Command::Inbox)),
+const NAMED: [(&str, Option<Subcommand>); 37] = [
+    ("run", Some(Subcommand::Run)),
+    ("run --free", Some(Subcommand::RunFree)),
+    ("text", Some(Subcommand::Text)),
+    ("text --to 2", Some(Subcommand::Migrate)),
+    ("make 0", Some(Subcommand::Make { number: 0 })),
+    (
+        "make 4294967295",
+        Some(Subcommand::Make { number: u32::MAX }),
+    ),
+    ("make 17 --run", Some(Subcommand::MakeRun { number: 17 })),
+    ("make --run 17", Some(Subcommand::MakeRun { number: 17 })),
+    ("trace", Some(Subcommand::Trace)),
+    ("check", Some(Subcommand::Check)),
+    ("animate", Some(Subcommand::Animate)),
+    ("inbox", Some(Subcommand::Inbox)),
     ("trace trace", None),
     ("check --all", None),
     ("animate 1", None),
@@ -50,7 +53,7 @@ fn names(
     rt: &impl Abort,
     alloc: Global,
     line: &str,
-    command: Option<Command>,
+    command: Option<Subcommand>,
 ) -> Result<(), AllocError> {
     let words = words_of(alloc, line)?;
     let read = read_words(alloc, words.as_slice()).expect(rt, "memory");

@@ -1,6 +1,6 @@
 //! Faults of the source and of the sink, and inputs that are too long.
 use super::{Case, NEVER, Wants, joined};
-use dash_script::Cause as TextCause;
+use dash_script::Cause;
 use dashboard_cli::*;
 use std::alloc::{AllocError, Global};
 
@@ -30,7 +30,7 @@ const LENGTHS: [(&str, usize, Status); 3] = [
         MOST_BYTES,
         Status::Script {
             line: 1,
-            cause: Cause::Text(TextCause::Form),
+            cause: LineCause::Text(Cause::Form),
         },
     ),
     ("run", MOST_BYTES + 1, Status::TooLong),

@@ -1,5 +1,5 @@
 //! Inputs that are refused, each with its least bad line.
-use dash_script::Cause as TextCause;
+use dash_script::Cause;
 use dashboard_cli::*;
 
 pub(super) const OF_SCRIPTS: [(&str, &str, &str, Status, &str, &str); 11] = [
@@ -9,7 +9,7 @@ pub(super) const OF_SCRIPTS: [(&str, &str, &str, Status, &str, &str); 11] = [
         "",
         Status::Script {
             line: 1,
-            cause: Cause::Text(TextCause::Missing),
+            cause: LineCause::Text(Cause::Missing),
         },
         "",
         "",
@@ -20,7 +20,7 @@ pub(super) const OF_SCRIPTS: [(&str, &str, &str, Status, &str, &str); 11] = [
         "dashboard 1\nloopers 1\nthre",
         Status::Script {
             line: 3,
-            cause: Cause::Text(TextCause::Form),
+            cause: LineCause::Text(Cause::Form),
         },
         "",
         "",
@@ -31,7 +31,7 @@ pub(super) const OF_SCRIPTS: [(&str, &str, &str, Status, &str, &str); 11] = [
         "dashboard 1\nloopers 9\n",
         Status::Script {
             line: 2,
-            cause: Cause::Text(TextCause::Range),
+            cause: LineCause::Text(Cause::Range),
         },
         "",
         "",
@@ -42,7 +42,7 @@ pub(super) const OF_SCRIPTS: [(&str, &str, &str, Status, &str, &str); 11] = [
         "trace 1\nend\n",
         Status::Script {
             line: 1,
-            cause: Cause::Text(TextCause::Form),
+            cause: LineCause::Text(Cause::Form),
         },
         "",
         "",
@@ -53,7 +53,7 @@ pub(super) const OF_SCRIPTS: [(&str, &str, &str, Status, &str, &str); 11] = [
         "dashboard 1\nloopers 1\nthreads 1\nhandler 0 1\n",
         Status::Script {
             line: 4,
-            cause: Cause::Text(TextCause::Unknown),
+            cause: LineCause::Text(Cause::Unknown),
         },
         "",
         "",
@@ -64,7 +64,7 @@ pub(super) const OF_SCRIPTS: [(&str, &str, &str, Status, &str, &str); 11] = [
         "dashboard 1\nloopers 1\nthreads 1\nhandler 1 0\n",
         Status::Script {
             line: 4,
-            cause: Cause::Text(TextCause::Order),
+            cause: LineCause::Text(Cause::Order),
         },
         "",
         "",
@@ -75,7 +75,7 @@ pub(super) const OF_SCRIPTS: [(&str, &str, &str, Status, &str, &str); 11] = [
         "animate 1\nperiod 1000000\ncountdown 60001 10\nend\n",
         Status::Script {
             line: 3,
-            cause: Cause::Text(TextCause::Range),
+            cause: LineCause::Text(Cause::Range),
         },
         "",
         "",
@@ -86,7 +86,7 @@ pub(super) const OF_SCRIPTS: [(&str, &str, &str, Status, &str, &str); 11] = [
         "dashboard 1\n",
         Status::Script {
             line: 2,
-            cause: Cause::Text(TextCause::Missing),
+            cause: LineCause::Text(Cause::Missing),
         },
         "",
         "",
@@ -97,7 +97,7 @@ pub(super) const OF_SCRIPTS: [(&str, &str, &str, Status, &str, &str); 11] = [
         "dashboard 1\nloopers 2\nthreads 1\ngauge 0 0 5\nvsync 16666667\nend 1\n",
         Status::Script {
             line: 4,
-            cause: Cause::Text(TextCause::Unknown),
+            cause: LineCause::Text(Cause::Unknown),
         },
         "",
         "",
@@ -109,7 +109,7 @@ pub(super) const OF_SCRIPTS: [(&str, &str, &str, Status, &str, &str); 11] = [
         "dashboard 1\nloopers 2\nthreads 1\nhandler 0 0\ngauge 0 0 5\nvsync 16666667\nend 1\n",
         Status::Script {
             line: 2,
-            cause: Cause::Inbox,
+            cause: LineCause::Inbox,
         },
         "",
         "",
@@ -120,7 +120,7 @@ pub(super) const OF_SCRIPTS: [(&str, &str, &str, Status, &str, &str); 11] = [
         "dashboard 1\nloopers 1\nthreads 1\nhandler 0 0\nvsync 16666667\nat 1\n0 post 0 1 0\n0 barrier 0 0\n0 quit 0\nend 1\n",
         Status::Script {
             line: 8,
-            cause: Cause::Inbox,
+            cause: LineCause::Inbox,
         },
         "",
         "",

@@ -1,5 +1,5 @@
 //! Statuses, with their codes and texts.
-use dash_script::Cause as TextCause;
+use dash_script::Cause;
 use dashboard_cli::*;
 use std::alloc::Global;
 use std::process::Abort;
@@ -12,7 +12,7 @@ const STATUSES: [(Status, u8, &str); 14] = [
     (
         Status::Script {
             line: 1,
-            cause: Cause::Text(TextCause::Missing),
+            cause: LineCause::Text(Cause::Missing),
         },
         3,
         "dashboard: script line 1: missing",
@@ -20,7 +20,7 @@ const STATUSES: [(Status, u8, &str); 14] = [
     (
         Status::Script {
             line: 2,
-            cause: Cause::Text(TextCause::Form),
+            cause: LineCause::Text(Cause::Form),
         },
         3,
         "dashboard: script line 2: form",
@@ -28,7 +28,7 @@ const STATUSES: [(Status, u8, &str); 14] = [
     (
         Status::Script {
             line: 30,
-            cause: Cause::Text(TextCause::Range),
+            cause: LineCause::Text(Cause::Range),
         },
         3,
         "dashboard: script line 30: range",
@@ -36,7 +36,7 @@ const STATUSES: [(Status, u8, &str); 14] = [
     (
         Status::Script {
             line: 400,
-            cause: Cause::Text(TextCause::Unknown),
+            cause: LineCause::Text(Cause::Unknown),
         },
         3,
         "dashboard: script line 400: unknown",
@@ -44,7 +44,7 @@ const STATUSES: [(Status, u8, &str); 14] = [
     (
         Status::Script {
             line: 5,
-            cause: Cause::Text(TextCause::Order),
+            cause: LineCause::Text(Cause::Order),
         },
         3,
         "dashboard: script line 5: order",
@@ -52,7 +52,7 @@ const STATUSES: [(Status, u8, &str); 14] = [
     (
         Status::Script {
             line: 20_001,
-            cause: Cause::Text(TextCause::TooMany),
+            cause: LineCause::Text(Cause::TooMany),
         },
         3,
         "dashboard: script line 20001: toomany",
@@ -60,7 +60,7 @@ const STATUSES: [(Status, u8, &str); 14] = [
     (
         Status::Script {
             line: 7,
-            cause: Cause::Inbox,
+            cause: LineCause::Inbox,
         },
         3,
         "dashboard: script line 7: inbox",

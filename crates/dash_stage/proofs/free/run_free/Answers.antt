@@ -1,18 +1,28 @@
 use Rattle.std.proofs.Common.{subst}
+use Rattle.std.proofs.lemmas.Result.{IfOk-weaker}
+use Rattle.run_model.specs.Moments.{Mode}
 use Rattle.run_model.specs.ByClock.{in_free_mode}
 use Rattle.dash_stage.specs.RunEnds.{HasEndedByClock}
-use Rattle.dash_stage.proofs.Ends.Reported.{run_staged_by_clock}
+use Rattle.dash_stage.proofs.BlockTimes.Limits.{playable}
+use Rattle.dash_stage.proofs.ByClock.ClockEnds.{begins_by_clock}
+use Rattle.dash_stage.proofs.Ends.Reported.{staged_by_clock}
 use Rattle.dash_stage.proofs.Sharing.StageShares.{stage_in_its_mode}
 use Rattle.dash_stage.proofs.free.run_free.Goals as goal
 
+pub play_by_clock-requires-clause-begun : goal.play_by_clock-requires-clause-begun
+play_by_clock-requires-clause-begun g c κs within =
+    let timer = c.new-timer.result in
+    let m : Mode = in_free_mode (g.C.Clock.shows timer.clock.now) timer.start in
+    begins_by_clock m c.args.script c.in_ok-stage.stage (playable c.args.script c.requires).loopers c.in_ok-stage.ensures.opened
+
 pub report-requires : goal.report-requires
 report-requires g c =
-    let out = c.in-Ok.ensures.out in
-    record { stage = stage_in_its_mode c.args.script c.in-Ok.stage out.out.stage; ended = out.ran.ended; on = out.ran.on }
+    let out = c.in_ok-play_by_clock.ensures.out in
+    record { stage = stage_in_its_mode c.args.script c.play_by_clock.new.self out.out.stage; ended = out.ran.ended; on = out.ran.on }
 
 pub returns : goal.returns
 returns g c =
     let timer = c.new-timer.result in
-    run_staged_by_clock (g.C.Clock.shows c.args.clock.now) c.args.script c.in-Ok.stage timer.start c.new-timer.ensures.start
-    (subst (λ k. HasEndedByClock (in_free_mode (g.C.Clock.shows k) timer.start) c.args.script c.in-Ok.stage) c.new-timer.ensures.clock c.in-Ok.ensures.out)
-    c.report.result c.report.ensures
+    let st = c.play_by_clock.new.self in
+    let out = subst (λ k. HasEndedByClock (in_free_mode (g.C.Clock.shows k) timer.start) c.args.script st) c.new-timer.ensures.clock c.in_ok-play_by_clock.ensures.out in
+    IfOk-weaker c.report.result _ _ (λ r. staged_by_clock (g.C.Clock.shows c.args.clock.now) c.args.script st timer.start c.new-timer.ensures.start out r) c.report.ensures

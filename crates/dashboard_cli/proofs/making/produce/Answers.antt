@@ -1,7 +1,7 @@
 -- What is made without an input is made of none.
 use Rattle.std.proofs.Common.{refl}
 use Rattle.std.proofs.lemmas.Result.{IfOk-weaker}
-use Rattle.dashboard_cli.specs.declared.words.Command.TheVariants.{Make, MakeRun}
+use Rattle.dashboard_cli.specs.declared.words.Subcommand.TheVariants.{Make, MakeRun}
 use Rattle.dashboard_cli.proofs.Running.{makes_of_nothing}
 use Rattle.dashboard_cli.proofs.making.produce.Goals as goal
 

@@ -4,7 +4,7 @@ use Rattle.std.specs.Prelude.{unwrap_or}
 use Rattle.std.specs.Fmt.{decimal}
 use Rattle.clap.specs.Words.{found_of}
 use Rattle.clap.proofs.WalkLemmas.{first_value-rows, one_text-rows}
-use Rattle.dashboard_cli.specs.declared.words.Command.TheVariants.{Make, MakeRun}
+use Rattle.dashboard_cli.specs.declared.words.Subcommand.TheVariants.{Make, MakeRun}
 use Rattle.dashboard_cli.proofs.CommandLineLemmas.{is_make, parses}
 use Rattle.dashboard_cli.proofs.words.make_found.Goals as goal
 

@@ -2,7 +2,7 @@ use Rattle.std.proofs.Common.{◌++◌, ◌∙◌, ap, map}
 use Rattle.std.specs.Prelude.{string_bytes}
 use Rattle.std.specs.Fmt.{digits}
 use Rattle.trace_check.specs.Text.{trace_queue_of}
-use Rattle.trace_check.specs.declared.line.Line.TheVariants.{Title}
+use Rattle.trace_check.specs.declared.line.TraceLine.TheVariants.{Title}
 use Rattle.trace_check.specs.Text.{trace_line_text}
 use Rattle.trace_check.proofs.Written.{whole_text}
 use Rattle.trace_check.proofs.writer.print_records.Goals as goal

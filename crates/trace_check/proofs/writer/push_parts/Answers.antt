@@ -5,7 +5,7 @@ use Rattle.std.proofs.Math.Seq.{take-length}
 use Rattle.loop_model.specs.declared.entry.Entry.{Entry as EntryData}
 use Rattle.loop_model.specs.declared.segment.Segment.{Segment}
 use Rattle.loop_model.specs.Chain.{entries_of}
-use Rattle.trace_check.specs.declared.line.Line.TheVariants.{Entry}
+use Rattle.trace_check.specs.declared.line.TraceLine.TheVariants.{Entry}
 use Rattle.trace_check.specs.Text.{trace_line_text}
 use Rattle.trace_check.proofs.Parts.{parts_taken, entry_lines_more}
 use Rattle.trace_check.proofs.writer.push_parts.Goals as goal

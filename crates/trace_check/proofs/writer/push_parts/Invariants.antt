@@ -2,7 +2,7 @@ use Rattle.std.proofs.Common.{◌≡◌, ◌++◌, take, map}
 use Rattle.std.specs.Prelude.{string_bytes}
 use Rattle.std.specs.List.{flat_map}
 use Rattle.loop_model.specs.Chain.{entries_of}
-use Rattle.trace_check.specs.declared.line.Line.TheVariants.{Entry}
+use Rattle.trace_check.specs.declared.line.TraceLine.TheVariants.{Entry}
 use Rattle.trace_check.specs.Text.{trace_line_text}
 use Rattle.trace_check.proofs.writer.push_parts.Given as goal
 

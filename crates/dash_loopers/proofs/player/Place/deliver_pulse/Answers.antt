@@ -8,6 +8,7 @@ use Rattle.choreographer.proofs.InTime.{pulse_quiet}
 use Rattle.dash_loopers.proofs.LooperPlaces.{its_period, may_deliver}
 use Rattle.dash_loopers.proofs.LatestPulses.{gets_latest, comes_later, pulse_may_await, pulse_waits}
 use Rattle.dash_loopers.proofs.PlaySteps.{pulse_here, pulse_hosted}
+use Rattle.dash_loopers.proofs.PulsesOnTime.{comes_as_asked}
 use Rattle.dash_loopers.proofs.LooperClock.{untimed_same, pulse_untimed_hosted}
 use Rattle.dash_loopers.proofs.player.Place.deliver_pulse.Goals as goal
 use Rattle.dash_loopers.proofs.LooperLeaves.{keeps_hosted, tells_none}
@@ -51,6 +52,7 @@ returns-clause-next g c =
     record {
       is_pulse = subst (λ (n : ℕ). is_pulse_if_any n (stamp_in c.deliver-pulse.result) ≡ true) period c.deliver-pulse.ensures.latest.is_pulse;
       later = comes_later before c.deliver-pulse.new.pass (stamp_in c.deliver-pulse.result) c.deliver-pulse.ensures.latest.later c.deliver-pulse.ensures.latest.awaits;
+      asked = comes_as_asked before c.deliver-pulse.new.pass _ _ _ c.deliver-pulse.result c.deliver-pulse.ensures.pulse;
       got = gets_latest before c.deliver-pulse.new.pass (stamp_in c.deliver-pulse.result) c.deliver-pulse.ensures.pass c.deliver-pulse.ensures.latest.stamp c.deliver-pulse.ensures.latest.awaits;
       quiet = pulse_quiet before c.deliver-pulse.new.pass (λ n. n == nanos_of c.host-host.result.uptime.now.now) _ _ c.deliver-pulse.result c.deliver-pulse.ensures.pulse;
       waits = pulse_waits c.deliver-pulse.result c.args.parts.now.awaits c.is_some.result c.is_some.ensures;

@@ -13,7 +13,7 @@ index_mut-requires g c = in_posters c.requires.at
 
 pub quit_by-requires : goal.quit_by-requires
 quit_by-requires g c = let at = c.requires.at in
-    record { poster = (own_poster at c.index_mut.ensures.value c.index.ensures).0; of_pool = at.controller.pass; home = in_pool at c.index.ensures }
+    record { queue = (own_poster at c.index_mut.ensures.value c.index.ensures).0; pass = at.controller.pass; home = in_pool at c.index.ensures }
 
 pub returns : goal.returns
 returns g c =

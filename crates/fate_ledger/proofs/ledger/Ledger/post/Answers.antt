@@ -1,6 +1,6 @@
 use Rattle.std.proofs.Common.{◌∙◌, ◌+◌, [], ◌∷◌, ◌++◌, sym, ap, drop}
 use Rattle.std.specs.Prelude.{reverse}
-use Rattle.fate_ledger.specs.Ledgers.{causes_of}
+use Rattle.fate_ledger.specs.Ledgers.{endings_of}
 use Rattle.fate_ledger.proofs.Passed.{post_passed, post_counted, posts_left}
 use Rattle.fate_ledger.proofs.ledger.Ledger.post.Goals as goal
 
@@ -17,6 +17,6 @@ returns-clause-fates c =
     let n = c.args.self.now.number in
     let posted = sym c.in-Some.ensures in
     let some = posts_left es k _ c.in-Some.post n c.requires.within posted c.requires.follows.number in
-    let end = c.first_end-end.ensures (k + 1) (causes_of (drop (k + 1) es)) c.requires.follows.behind in
+    let end = c.first_end-end.ensures (k + 1) (endings_of (drop (k + 1) es)) c.requires.follows.behind in
     let items = c.in-Ok.ensures.items ∙ ap (λ f. c.args.self.now.fates.items ++ f ∷ []) c.fate_at.ensures in
     ap reverse items ∙ post_passed es k _ c.in-Some.post n c.args.self.now.fates.items c.first_end-end.result c.requires.within posted some c.requires.follows.fates end

@@ -9,4 +9,4 @@ returns-clause-own g c =
     record { same = record { poster = refl; pass = refl; journal = refl }; lent = kept.0; rung = kept.1 }
 
 pub on_vsync-requires-clause-delivers : goal.on_vsync-requires-clause-delivers
-on_vsync-requires-clause-delivers g c = λ n named. let both = sym c.requires.serves.pulses ∙ named in absurd (cc (both))
+on_vsync-requires-clause-delivers g c = λ n named. let both = sym c.requires.serves.has.pulses ∙ named in absurd (cc (both))

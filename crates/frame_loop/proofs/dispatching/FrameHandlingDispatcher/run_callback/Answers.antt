@@ -3,10 +3,5 @@ use Rattle.looper_run.proofs.Asking.{unless_weaker}
 use Rattle.plain_loop.proofs.Looping.{did_unless}
 use Rattle.frame_loop.proofs.dispatching.FrameHandlingDispatcher.run_callback.Goals as goal
 
-pub returns-clause-keeps : goal.returns-clause-keeps
-returns-clause-keeps g c =
-    let left = c.deliver.ensures in
-    record { serves = left.serves; origin = refl; nudges = left.rings; asked = refl; own = left.same; lent = left.lent }
-
 pub returns-clause-routed : goal.returns-clause-routed
 returns-clause-routed g c = unless_weaker _ _ c.did.result (λ h. record { awaits = h; meets = refl }) (did_unless _ _ _ c.did.ensures c.deliver.ensures.holds)
