@@ -13,3 +13,4 @@ pub mod FramePosts
 pub mod Clocking
 pub mod HostClock
 pub mod Shown
+pub mod OneByOne

@@ -33,3 +33,6 @@ pub mod LooperRounds
 pub mod LatestPulses
 pub mod PulsesOnTime
 pub mod LooperLeaves
+pub mod LooperShares
+pub mod OwnLooks
+pub mod Disposing

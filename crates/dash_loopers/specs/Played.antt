@@ -33,7 +33,7 @@ use Rattle.choreographer.specs.declared.hosted.Pulse.{Pulse}
 use Rattle.choreographer.specs.Client.{Run}
 use Rattle.run_model.specs.Planned.{Makes, AreFor, entries_by, looper_of, frame_message, frame_due, sender_count}
 use Rattle.run_model.specs.AskedSoFar.{tokens_in}
-use Rattle.run_model.specs.Control.{Timing, At, InBlock, Exactly, NotBefore}
+use Rattle.run_model.specs.Control.{Timing, At, InBlock, Exactly, AnyTime}
 use Rattle.run_model.specs.Loopers.{LooperState, SentCall, first_looper, starts_frame, after_dispatch, fires, reaction, ActsLead, IsSent, pulse_stamp}
 use Rattle.run_model.specs.Loopers.{has_frames, GaugeState}
 use Rattle.run_model.specs.Parts.{sent_on, asks_to_run}
@@ -233,8 +233,8 @@ asks_for None start = []
 asks_for (Some place) start = Runs start ∷ []
 
 -- callbacks of these identities ran, of a frame whose beginning the pass has seen, or of none, and the pass asked for that frame, by its start, and for nothing
--- else; its moments pass the test, and it began with the stamp of the latest pulse. Where the test is of one moment alone, the pass has seen no later one yet,
--- and a frame that was to begin and is to begin no more began
+-- else; its moments pass the test, and it began with the stamp of the latest pulse. Where the test is of one moment alone, and the
+-- pass, which alone delivers pulses, had seen no later one, it has seen none still, and a frame that was to begin and is to begin no more began
 pub record RanFrame (interval phases : ℕ) (is_moment : ℕ → Bool) (before after : Pass) (ids : List ℕ) : Type 0 where
   pub frame : Option ℕ
   pub start : ℕ
@@ -313,7 +313,7 @@ PulsesThen s q now made made' parts parts' acts acts' =
 
 -- a call without its timing, and a frame without the time at which it was to start
 abbrev pub untimed : SentCall → SentCall
-untimed x = record x { timing = NotBefore 0 }
+untimed x = record x { timing = AnyTime }
 
 abbrev pub unstarted : FrameAt → FrameAt
 unstarted x = record x { now = 0 }
@@ -370,7 +370,7 @@ abbrev pub IsTimedBy : ℕ → ℕ → List Entry → ℕ → ℕ → Timing →
 IsTimedBy q sender looks now queue (At time) = HasLookedAt sender looks time
 IsTimedBy q sender looks now queue (InBlock time) = ⊥
 IsTimedBy q sender looks now queue (Exactly time) = (time ≡ now) × (queue ≡ q)
-IsTimedBy q sender looks now queue (NotBefore time) = ⊥
+IsTimedBy q sender looks now queue AnyTime = ⊥
 
 -- to post a callback is asked at this time, which is due at once
 abbrev pub IsAskedDueAt : ℕ → FrameAsk → Type 0

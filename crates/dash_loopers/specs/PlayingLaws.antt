@@ -21,7 +21,7 @@ use Rattle.loop_model.specs.declared.journal.Act.TheVariants.{Dispatch, Idle, Ev
 use Rattle.dash_script.specs.declared.script.Script.{Script}
 use Rattle.looper_run.specs.Acts.{IsQuietAct}
 use Rattle.run_model.specs.Planned.{entries_by, sender_count}
-use Rattle.run_model.specs.Control.{Timing, At, InBlock, Exactly, NotBefore}
+use Rattle.run_model.specs.Control.{Timing, At, InBlock, Exactly, AnyTime}
 use Rattle.run_model.specs.FrameRecords.{FrameAt, nanos_of}
 use Rattle.run_model.specs.Loopers.{LooperState, first_looper, after_act, pulse_stamp}
 use Rattle.choreographer.specs.Known.{Pass}
@@ -164,13 +164,13 @@ pub timed_left : (q k : ℕ) (looks more : List Entry) (now queue : ℕ) (t : Ti
 timed_left q k looks more now queue (At time) h = looked_left k looks more time h
 timed_left q k looks more now queue (InBlock time) h = absurd h
 timed_left q k looks more now queue (Exactly time) h = h
-timed_left q k looks more now queue (NotBefore time) h = absurd h
+timed_left q k looks more now queue AnyTime h = absurd h
 
 pub timed_right : (q k : ℕ) (looks more : List Entry) (now queue : ℕ) (t : Timing) → IsTimedBy q k more now queue t → IsTimedBy q k (looks ++ more) now queue t
 timed_right q k looks more now queue (At time) h = looked_right k looks more time h
 timed_right q k looks more now queue (InBlock time) h = absurd h
 timed_right q k looks more now queue (Exactly time) h = h
-timed_right q k looks more now queue (NotBefore time) h = absurd h
+timed_right q k looks more now queue AnyTime h = absurd h
 
 pub goes_then : (q k : ℕ) (looks more : List Entry) (now : ℕ) (a b c : LooperState) → GoesOnTo q k looks now a b → GoesOnTo q k more now b c
     → GoesOnTo q k (looks ++ more) now a c

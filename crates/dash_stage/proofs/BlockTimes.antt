@@ -2,5 +2,4 @@
 pub mod Blocks
 pub mod BlocksFirst
 pub mod BlocksReached
-pub mod BlockOrder
 pub mod Limits

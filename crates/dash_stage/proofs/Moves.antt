@@ -2,7 +2,6 @@
 pub mod StageMoves
 pub mod StageDue
 pub mod PulseTimes
-pub mod MoveLaws
 pub mod MovesKept
 pub mod MovesDue
 pub mod MovesRecords

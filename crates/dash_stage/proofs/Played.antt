@@ -4,7 +4,6 @@ pub mod Standing
 pub mod Asked
 pub mod Dispatched
 pub mod KitsTold
-pub mod OwnLooks
 pub mod Disposing
 pub mod LoopersGive
 pub mod PlayedRecords

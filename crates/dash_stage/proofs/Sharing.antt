@@ -1,7 +1,5 @@
 -- How all senders hear each other.
-pub mod ThreadShares
-pub mod OneByOne
-pub mod LooperShares
+pub mod SenderShares
 pub mod PassShares
 pub mod StageShares
 pub mod FrameShares

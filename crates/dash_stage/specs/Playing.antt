@@ -8,7 +8,7 @@ use Rattle.dash_script.specs.declared.script.Script.{Script}
 use Rattle.looper_run.specs.Holding.{Sender}
 use Rattle.looper_run.specs.Round.{is_ended}
 use Rattle.run_model.specs.Planned.{looper_sender, sender_count}
-use Rattle.run_model.specs.Control.{Before, befores, befores_from, Timing, At, InBlock, Exactly, NotBefore, are_on_time, come_first}
+use Rattle.run_model.specs.Control.{Before, befores, befores_from, Timing, At, InBlock, Exactly, AnyTime, are_on_time, come_first}
 use Rattle.run_model.specs.Loopers.{LooperState, first_looper}
 use Rattle.run_model.specs.Parts.{sent_on}
 use Rattle.dash_loopers.specs.declared.looper.StageLooper.{StageLooper}
@@ -30,7 +30,7 @@ abbrev pub IsMet : ℕ → ℕ → Timing → Type 0
 IsMet time clock (At t) = t ≡ time
 IsMet time clock (InBlock t) = ⊥
 IsMet time clock (Exactly t) = t ≡ clock
-IsMet time clock (NotBefore t) = ⊥
+IsMet time clock AnyTime = ⊥
 
 -- the calls of looper q that the state tells came at their times: on its own queue all but the looks that disposed of it, and on each other queue all
 pub record AreCallsOnTime (s : Script) (c : Controller) (q : ℕ) (a : LooperState) : Type 0 where

@@ -10,3 +10,4 @@ pub mod ThreadFrameRuns
 pub mod ThreadHears
 pub mod ThreadNudges
 pub mod ThreadBells
+pub mod ThreadShares

@@ -59,7 +59,7 @@ pub record KeepsHandlers {R C E H : Type 0} (before after : FrameHandling R C E 
   pub handlers : after.handlers ≡ before.handlers
   pub nudged : after.nudged ≡ before.nudged
 
--- it serves what it served, and it rang no bell, by what it was lent or its own count
+-- it serves what it served, what it was lent has gone on as the calls of a dispatcher may, and it rang no bell, by that or by its own count
 pub record KeepsBell {R C E H P : Type 0} (before after : FrameHandling R C E H) (lends lends' : Own E P) : Type 0 where
   pub serves : KeepsServing before after
   pub own : KeepsOwn lends lends'

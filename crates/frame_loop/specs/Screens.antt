@@ -45,12 +45,12 @@ pub record KeepsScreen {R C E : Type 0} (before after : Screen R C E) : Type 0 w
   pub screen : IsScreen after
   pub same : IsSameScreen before after
 
--- what a call at the choreographer keeps beside: nothing was sent by the line
+-- a call at the choreographer keeps the screen, and nothing was sent by the line
 pub record KeepsWay {R C E : Type 0} (before after : Screen R C E) : Type 0 where
   pub screen : KeepsScreen before after
   pub way : (after.poster.now ≡ before.poster.now) × (after.pass.now ≡ before.pass.now)
 
--- what a call on the line keeps beside: no callback was posted or removed
+-- a call on the line keeps the screen, and no callback was posted or removed
 pub record KeepsCallbacks {R C E : Type 0} (before after : Screen R C E) : Type 0 where
   pub screen : KeepsScreen before after
   pub callbacks : (after.asks.now ≡ before.asks.now) × (after.outbox.now ≡ before.outbox.now)

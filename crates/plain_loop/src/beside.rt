@@ -136,7 +136,7 @@ pub fn run_here<
     run_looper(&mailbox, &mut looper, handlers)
 }
 
-/// Does the work, and then quits the queue safely by this sender (`Looper.quitSafely`).
+/// Does the work, and then quits the queue safely by this sender (`Looper.quitSafely`). Answers what the work did.
 pub fn work_and_quit<R: Wait, C: Clock, T, W: FnOnce(&Mailbox<R, C>, Senders) -> T>(
     mailbox: &Mailbox<R, C>,
     senders: Senders,
@@ -145,6 +145,7 @@ pub fn work_and_quit<R: Wait, C: Clock, T, W: FnOnce(&Mailbox<R, C>, Senders) ->
 ) -> T
     requires last { IsSender mailbox.now.queue.now mailbox.now.pool.now last }
     requires work { W.pre work mailbox senders }
+    ensures answer { W.post work mailbox.entry senders result }
 {
     let answer = work(mailbox, senders);
     let mut line = last.line(mailbox);

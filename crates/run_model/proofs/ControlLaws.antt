@@ -4,9 +4,11 @@ use Rattle.std.specs.Prelude.{◌&&◌, nat_le, if◌then◌else◌}
 use Rattle.std.proofs.lemmas.List.{append-nil}
 use Rattle.std.proofs.Math.Bool.{and_assoc}
 use Rattle.std.proofs.lemmas.Bool.{and_parts, and_from}
+use Rattle.loop_model.specs.declared.call.Call.{Call}
+use Rattle.loop_model.specs.declared.call.Call.TheVariants.{Post, Barrier, Unbarrier, Remove, Quit, Next, Advance, Halt}
 use Rattle.loop_model.specs.declared.entry.Entry.{Entry}
-use Rattle.loop_model.specs.Entries.{moment_of}
-use Rattle.run_model.specs.Control.{is_advance, is_closing, are_controls, each_behind}
+use Rattle.loop_model.specs.Entries.{moment_of, is_next}
+use Rattle.run_model.specs.Control.{is_advance, is_halt, is_quit, is_closing, are_controls, each_behind}
 
 -- Advances in lockstep, up to the end
 abbrev pub are_advances : Bool → ℕ → List Entry → Bool
@@ -46,3 +48,14 @@ each_behind-append test past [] ys = ap (λ l. each_behind test l ys) (sym (appe
 each_behind-append test past (x ∷ xs) ys =
     ap (λ t. test past x && t) (each_behind-append test (past ++ x ∷ []) xs ys ∙ ap (λ l. each_behind test (past ++ x ∷ []) xs && each_behind test l ys) (append_assoc past (x ∷ []) xs))
     ∙ sym (and_assoc (test past x) (each_behind test (past ++ x ∷ []) xs) (each_behind test (past ++ x ∷ xs) ys))
+
+-- an Advance neither halts nor quits, and it is no look
+pub advance_alone : (call : Call) → is_advance call ≡ true → (is_halt call ≡ false) × (is_quit call ≡ false) × (is_next call ≡ false)
+advance_alone (Advance now) h = (refl, refl, refl)
+advance_alone (Post p) h = absurd cc
+advance_alone (Barrier now) h = absurd cc
+advance_alone (Unbarrier t) h = absurd cc
+advance_alone (Remove f) h = absurd cc
+advance_alone (Quit safe now) h = absurd cc
+advance_alone (Next now) h = absurd cc
+advance_alone (Halt now) h = absurd cc

@@ -28,3 +28,5 @@ pub mod Growth
 pub mod FrameKeeping
 pub mod ControlLaws
 pub mod FreshLaws
+pub mod BlockOrder
+pub mod MoveLaws

@@ -47,7 +47,7 @@ abbrev frame_at_34 : ℕ → ℕ → List FrameEntry → List FrameEntry
 frame_at_34 stamp time ran =
     frame.Begin stamp 34000000 time ∷ frame.Take 0 34000000 time ∷ ran ++ frame.Take 1 34000000 time ∷ frame.Take 2 34000000 time ∷ frame.Take 3 34000000 time ∷ []
 
--- a period of half a millisecond, so that two pulses have one millisecond
+-- a period of half a millisecond, which no text has, so that two pulses have one millisecond
 abbrev two_a_millisecond : Script
 two_a_millisecond = record (one_callback 40) { period = 500000 }
 

@@ -115,15 +115,15 @@ pub data Timing : Type 0 where
   InBlock : (time : ℕ) → Timing
   -- at this time
   Exactly : (time : ℕ) → Timing
-  -- at this time or later
-  NotBefore : (time : ℕ) → Timing
+  -- at any time
+  AnyTime : Timing
 
 -- each of the calls is on time, by what stood before it, one for one
 abbrev pub is_on_time : Timing → Before → Bool
 is_on_time (At time) b = b.clock == time || b.disposed && nat_le b.clock time
 is_on_time (InBlock time) b = if b.disposed then nat_lt b.clock time else b.clock == time
 is_on_time (Exactly time) b = b.clock == time
-is_on_time (NotBefore time) b = nat_le time b.clock
+is_on_time AnyTime _ = true
 
 abbrev pub are_on_time : List Timing → List Before → Bool
 are_on_time [] [] = true

@@ -20,7 +20,7 @@ use Rattle.run_model.specs.FrameRecords.{TimedAsk, asked_in_rounds, lines_ask_th
 use Rattle.run_model.specs.FrameRecords.{place_after, frames_after, Runs, nanos_of}
 use Rattle.run_model.specs.Planned.{Ask, Makes, Unbars, bare_call, call_of, looper_of, gauge_line, gauge_looper, frame_handler, animation_id, animation_phase}
 use Rattle.run_model.specs.Planned.{traversal_id, traversal_phase, sent_by, frame_due, frame_message, lines_of}
-use Rattle.run_model.specs.Control.{Timing, At, Exactly, NotBefore}
+use Rattle.run_model.specs.Control.{Timing, At, Exactly, AnyTime}
 
 pub record GaugeState : Type 0 where
   pub value : ℕ
@@ -221,7 +221,7 @@ has_frames acts a = length (filter_map pulse_stamp acts) == length a.frames + (i
 
 -- the last call of a looper that is not main: the look for a message that disposes of its queue
 abbrev pub closing : ℕ → ℕ → List SentCall
-closing q now = if q == 0 then [] else record { queue = q; ask = Makes (Next now); reply = Some Disposed; timing = NotBefore 0 } ∷ []
+closing q now = if q == 0 then [] else record { queue = q; ask = Makes (Next now); reply = Some Disposed; timing = AnyTime } ∷ []
 
 -- the entry makes the call, with the reply where that is told
 pub record IsSent (tokens : List ℕ) (x : SentCall) (e : Entry) : Type 0 where

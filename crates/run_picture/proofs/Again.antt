@@ -23,7 +23,7 @@ use Rattle.run_picture.specs.declared.line.ReportLine.{ReportLine}
 use Rattle.run_picture.specs.declared.line.ReportLine.TheVariants.{Title, Looper, Past, Fates, Act, Frame, Run, End}
 use Rattle.run_picture.specs.Reading as reading
 use Rattle.run_picture.specs.Lines as lines
-use Rattle.run_picture.specs.Text.{IsMeant, FitsReportLine, report_line_words, past_words, act_words, subject_words, fates_words}
+use Rattle.run_picture.specs.Text.{IsConsistent, FitsReportLine, report_line_words, past_words, act_words, subject_words, fates_words}
 
 -- each number is within its width
 abbrev Fit : List WrittenWord → Type 0
@@ -89,7 +89,7 @@ act_again (act_of.Idle id) fit = then_again _ _ _ _ (Act (act_of.Idle id)) (shor
 act_again (act_of.Event fd events) fit = two_again fd events (λ a b. Act (act_of.Event a b)) fit.1.0 fit.1.1.0
 act_again (act_of.Paint gauge value) fit = two_again gauge value (λ a b. Act (act_of.Paint a b)) fit.1.0 fit.1.1.0
 
-title_again : (edition : ℕ) → IsMeant (Title edition) → lines.title (decimal edition ∷ []) ≡ Some (Title edition)
+title_again : (edition : ℕ) → IsConsistent (Title edition) → lines.title (decimal edition ∷ []) ≡ Some (Title edition)
 unfolding lines.title
 title_again edition (inl one) =
     then_again _ _ _ _ (Title edition) (short_again edition [] (omega (arith, one))) (rw (eq-eqb edition 1 one) refl)

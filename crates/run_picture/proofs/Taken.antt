@@ -28,7 +28,7 @@ use Rattle.run_picture.specs.declared.line.ReportLine.TheVariants.{Title, Looper
 use Rattle.run_picture.specs.Reading as reading
 use Rattle.run_picture.specs.Lines as lines
 use Rattle.run_picture.specs.Lines.{adds_up}
-use Rattle.run_picture.specs.Text.{IsMeant, FitsReportLine, report_line_words, subject_words, fates_words}
+use Rattle.run_picture.specs.Text.{IsConsistent, FitsReportLine, report_line_words, subject_words, fates_words}
 
 -- ---- messages
 
@@ -91,21 +91,21 @@ abbrev Takes : List ℕ → (Rest → Option ReportLine) → Type 0
 Takes w by = (rest : Rest) (l : ReportLine) → by rest ≡ Some l → LineTaken (w ∷ rest) l
 
 -- a line of these words, and nothing behind them
-said_taken : (ws : Rest) (made : ReportLine) (rest : Rest) (l : ReportLine) (said : List WrittenWord) → report_line_words made ≡ said → IsMeant made → whole made rest ≡ Some l → AllByRecursion FitsWord said
+said_taken : (ws : Rest) (made : ReportLine) (rest : Rest) (l : ReportLine) (said : List WrittenWord) → report_line_words made ≡ said → IsConsistent made → whole made rest ≡ Some l → AllByRecursion FitsWord said
     → ws ≡ spelled_words said ++ rest → LineTaken ws l
 said_taken ws made rest l said is meant e fit words =
     whole_taken ws made rest l e (subst (AllByRecursion FitsWord) (sym is) fit, meant) (words ∙ ap (λ v. spelled_words v ++ rest) (sym is))
 
-alone_taken : (w : List ℕ) (made : ReportLine) → report_line_words made ≡ Fixed w ∷ [] → IsMeant made → Takes w (whole made)
+alone_taken : (w : List ℕ) (made : ReportLine) → report_line_words made ≡ Fixed w ∷ [] → IsConsistent made → Takes w (whole made)
 alone_taken w made is meant rest l e = said_taken (w ∷ rest) made rest l (Fixed w ∷ []) is meant e (tt, tt) refl
 
-one_taken : (w : List ℕ) (make : ℕ → ReportLine) → ((n : ℕ) → report_line_words (make n) ≡ Fixed w ∷ Long n ∷ []) → ((n : ℕ) → IsMeant (make n)) → Takes w (lines.one_long make)
+one_taken : (w : List ℕ) (make : ℕ → ReportLine) → ((n : ℕ) → report_line_words (make n) ≡ Fixed w ∷ Long n ∷ []) → ((n : ℕ) → IsConsistent (make n)) → Takes w (lines.one_long make)
 one_taken w make are meant rest l e =
     let p = parted (taking.long rest) _ l e in
     let t = long_taken rest p.0 p.1 in
     said_taken (w ∷ rest) (make p.0.0) p.0.1 l (Fixed w ∷ Long p.0.0 ∷ []) (are p.0.0) (meant p.0.0) p.2 (tt, (t.0, tt)) (ap (λ r. w ∷ r) t.1)
 
-two_taken : (w : List ℕ) (make : ℕ → ℕ → ReportLine) → ((a b : ℕ) → report_line_words (make a b) ≡ Fixed w ∷ Short a ∷ Short b ∷ []) → ((a b : ℕ) → IsMeant (make a b)) → Takes w (lines.two_short make)
+two_taken : (w : List ℕ) (make : ℕ → ℕ → ReportLine) → ((a b : ℕ) → report_line_words (make a b) ≡ Fixed w ∷ Short a ∷ Short b ∷ []) → ((a b : ℕ) → IsConsistent (make a b)) → Takes w (lines.two_short make)
 two_taken w make are meant rest l e =
     let p0 = parted (taking.short rest) _ l e in
     let p1 = parted (taking.short p0.0.1) _ l p0.2 in

@@ -59,14 +59,14 @@ abbrev pub AddsUp : FatesData → Type 0
 AddsUp f = f.accepted ≡ f.dispatched + f.removed + f.dropped + f.stranded + f.queued
 
 -- what a line's numbers say beyond their widths: a report is of one of two editions, and its fates add up
-abbrev pub IsMeant : ReportLine → Type 0
-IsMeant (Title edition) = (edition ≡ 1) ⊎ (edition ≡ 2)
-IsMeant (Fates f) = AddsUp f
-IsMeant _ = Unit {0}
+abbrev pub IsConsistent : ReportLine → Type 0
+IsConsistent (Title edition) = (edition ≡ 1) ⊎ (edition ≡ 2)
+IsConsistent (Fates f) = AddsUp f
+IsConsistent _ = Unit {0}
 
--- each number of the line is within the width of its place, and means what it can
+-- each number of the line is within the width of its place, and the line's numbers agree
 abbrev pub FitsReportLine : ReportLine → Type 0
-FitsReportLine l = AllByRecursion FitsWord (report_line_words l) × IsMeant l
+FitsReportLine l = AllByRecursion FitsWord (report_line_words l) × IsConsistent l
 
 -- ---- the lines of a report
 

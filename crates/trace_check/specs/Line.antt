@@ -14,19 +14,25 @@ use Rattle.line_words.specs.Written.{WrittenWord, Fixed, Short, Long, MaybeShort
 use Rattle.trace_check.specs.declared.line.TraceLine.{TraceLine}
 use Rattle.trace_check.specs.declared.line.TraceLine.TheVariants.{Title, Queue, Entry, End}
 
+-- ---- the words of a line, each of which carries the width of its number
+
+-- what is posted
 abbrev pub post_words : Post → List WrittenWord
 post_words p =
     Short p.handler ∷ Short p.what ∷ Short p.arg ∷ MaybeLong p.obj ∷ MaybeLong p.callback ∷ Long p.when
     ∷ Fixed (one_of (codes "a") (codes "s") p.asynchronous) ∷ MaybeShort p.slot ∷ []
 
+-- what a filter asks of a message
 abbrev pub kind_words : Kind → List WrittenWord
 kind_words (What w) = Fixed (codes "what") ∷ Short w ∷ []
 kind_words (Callback c) = Fixed (codes "callback") ∷ Long c ∷ []
 kind_words AnyKind = Fixed (codes "all") ∷ []
 
+-- which messages are removed
 abbrev pub filter_words : Filter → List WrittenWord
 filter_words f = Short f.handler ∷ kind_words f.kind ++ MaybeLong f.obj ∷ []
 
+-- what is called
 abbrev pub call_words : Call → List WrittenWord
 call_words (call.Post p) = Fixed (codes "post") ∷ post_words p
 call_words (call.Barrier now) = Fixed (codes "barrier") ∷ Long now ∷ []
@@ -37,6 +43,7 @@ call_words (call.Next now) = Fixed (codes "next") ∷ Long now ∷ []
 call_words (call.Advance now) = Fixed (codes "advance") ∷ Long now ∷ []
 call_words (call.Halt now) = Fixed (codes "halt") ∷ Long now ∷ []
 
+-- what is replied
 abbrev pub reply_words : Reply → List WrittenWord
 reply_words (reply.Accepted n) = Fixed (codes "accepted") ∷ Long n ∷ []
 reply_words (reply.Refused place) = Fixed (codes "refused") ∷ Long place ∷ []
@@ -52,6 +59,7 @@ reply_words reply.Disposed = Fixed (codes "disposed") ∷ []
 reply_words reply.Advanced = Fixed (codes "advanced") ∷ []
 reply_words reply.Halted = Fixed (codes "halted") ∷ []
 
+-- a whole line
 abbrev pub trace_line_words : TraceLine → List WrittenWord
 trace_line_words Title = Fixed (codes "trace") ∷ Fixed (decimal 1) ∷ []
 trace_line_words (Queue h) =

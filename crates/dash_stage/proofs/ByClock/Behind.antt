@@ -37,7 +37,8 @@ use Rattle.dash_stage.specs.Sharing.{OfThreads, ControllerKeeps, HaveSeenTheSame
 use Rattle.dash_stage.specs.Stages.{IsStageIn}
 use Rattle.dash_stage.specs.Timeliness.{whole_on, TurnsOn, EachTurnsOn}
 use Rattle.dash_stage.proofs.Ends.HallEnds.{some_of}
-use Rattle.dash_stage.proofs.Sharing.ThreadShares.{thread_then, thread_self, thread_weaker, thread_kept, up_to_kept, of_threads_then}
+use Rattle.dash_threads.proofs.ThreadShares.{thread_then, thread_self, thread_weaker, thread_kept, up_to_kept}
+use Rattle.dash_stage.proofs.Sharing.SenderShares.{of_threads_then}
 use Rattle.dash_stage.proofs.Stages.StageWhole.{as_many, sender_at, entries_own, thread_entries}
 use Rattle.dash_stage.proofs.Stages.Timely.{before_quit_more, before_quit_block}
 

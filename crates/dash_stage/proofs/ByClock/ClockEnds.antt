@@ -20,7 +20,7 @@ use Rattle.dash_hall.specs.ByClock.{is_by}
 use Rattle.loop_model.specs.declared.entry.Entry.{Entry}
 use Rattle.dash_hall.proofs.Clocking.{clocked_same, if_free}
 use Rattle.dash_threads.specs.declared.thread.PostingThread.{PostingThread}
-use Rattle.dash_threads.specs.Threads.{IsThread, IsUpTo, AreByClock, ThreadKeeps}
+use Rattle.dash_threads.specs.Threads.{IsUpTo, AreByClock, ThreadKeeps}
 use Rattle.dash_loopers.specs.declared.looper.StageLooper.{StageLooper}
 use Rattle.dash_loopers.specs.declared.player.Parts.{Parts}
 use Rattle.dash_loopers.specs.Loopers.{IsLooper, posters_of, LooperKeeps}
@@ -111,10 +111,6 @@ numbered_still Is number n R still xs ys are each = (
 )
 
 module _ (m : Mode) (s : Script) (hall : Hall) where
-  -- the threads of the script have run all their lines, unless one gave up
-  pub threads_ran : (ts ts' : List PostingThread) → AreThreads s hall ts → AtEach (RunsByClock m s hall) ts ts' → AreThreads s hall ts'
-  threads_ran = numbered_still (IsThread s hall) (λ t. t.number) s.threads (RunsByClock m s hall) (λ x y one. (one.thread, one.number))
-
   pub threads_ran_all : (ts ts' : List PostingThread) → AreThreads s hall ts → AtEach (RunsByClock m s hall) ts ts' → GoOn ts' → HaveRunBy m s [] ts → HaveRunBy m s s.blocks ts'
   threads_ran_all ts ts' are ran going begun k d lt =
       let within : k < length ts = subst (λ (n : ℕ). k < n) ran.long lt in

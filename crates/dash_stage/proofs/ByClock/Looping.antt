@@ -19,7 +19,7 @@ use Rattle.dash_loopers.proofs.LooperNext.{stopped_not}
 use Rattle.dash_stage.specs.ByClock.{LoopsFor, LoopsAlone, LoopsToEnd, LoopsOut, LoopSideBySide, HaveLooped}
 use Rattle.dash_stage.specs.Playing.{HaveBegun}
 use Rattle.dash_stage.specs.Stages.{AreLoopers, OthersHaveEnded, LoopersGoOn}
-use Rattle.dash_stage.proofs.Sharing.LooperShares.{own_kept}
+use Rattle.dash_loopers.proofs.LooperShares.{own_kept}
 
 -- what is so at each place is so in another way
 pub each_so : {X : Type 0} (R Q : X → X → Type 0) → ((x y : X) → R x y → Q x y) → (xs ys : List X) → AtEach R xs ys → AtEach Q xs ys

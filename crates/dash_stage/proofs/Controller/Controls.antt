@@ -112,17 +112,6 @@ halts_at_end end es e h reached is halted =
     are_controls-last true true end false es e (advances_in_lockstep end es h) (ap is_advance is)
     (and_from _ _ (and_from _ _ (ap is_halt is) (ap is_halted halted)) (eq-eqb (moment_of e.call) end (ap moment_of is ∙ time)))
 
--- an Advance neither halts nor quits, and it is no look
-pub advance_alone : (call : Call) → is_advance call ≡ true → (is_halt call ≡ false) × (is_quit call ≡ false) × (is_next call ≡ false)
-advance_alone (Advance now) h = (refl, refl, refl)
-advance_alone (Post p) h = absurd cc
-advance_alone (Barrier now) h = absurd cc
-advance_alone (Unbarrier t) h = absurd cc
-advance_alone (Remove f) h = absurd cc
-advance_alone (Quit safe now) h = absurd cc
-advance_alone (Next now) h = absurd cc
-advance_alone (Halt now) h = absurd cc
-
 -- a halt is the controller's
 halt_is_control : (call : Call) → is_halt call ≡ true → is_control call ≡ true
 halt_is_control (Halt now) h = refl

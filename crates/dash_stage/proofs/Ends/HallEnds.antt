@@ -1,5 +1,5 @@
 -- The queues end, one after another, with the posters of all kits.
-use Rattle.std.proofs.Common.{◌≡◌, ℕ, zero, suc, ◌+◌, ◌<◌, ◌≤◌, List, [], ◌∷◌, ◌++◌, map, length, set, get_or, drop, refl, sym, ap, ◌∙◌, subst, arith, append-nil, length-append, Bool, false}
+use Rattle.std.proofs.Common.{◌≡◌, ℕ, zero, suc, ◌+◌, ◌<◌, ◌≤◌, List, [], ◌∷◌, ◌++◌, map, length, set, get_or, drop, sym, ap, ◌∙◌, subst, arith, append-nil, length-append, Bool, false}
 use Rattle.std.specs.Prelude.{◌==◌}
 use Rattle.std.specs.List.{AllByRecursion, range_with_len}
 use Rattle.std.proofs.Math.ListN.{get_or-append}
@@ -43,18 +43,15 @@ pub some_of : {X : Type 0} (xs : List X) (k : ℕ) → k < length xs → X
 some_of [] k lt = absurd (omega (arith, lt))
 some_of (x ∷ xs) k lt = x
 
+-- a whole list, of which this is next behind what was taken
+pub parted_at : {X : Type 0} (yielded items rest given whole : List X) (x : X) → items ≡ x ∷ rest → yielded ++ items ≡ given → given ≡ whole → yielded ++ x ∷ rest ≡ whole
+parted_at yielded items rest given whole x steps parts all = ap (λ l. yielded ++ l) (sym steps) ∙ (parts ∙ all)
+
 -- the first kits gave their posters
 pub record SomeGave (n : ℕ) (before : List Kit) (posters : List Sender) (after : List Kit) : Type 0 where
   pub kits : length after ≡ length before
   pub gone : (k : ℕ) (d : Kit) (p : Sender) → k < n → GivesPoster (get_or before k d) (get_or posters k p) (get_or after k d)
   pub still : (k : ℕ) (d : Kit) → n ≤ k → get_or after k d ≡ get_or before k d
-
-pub gave_none : (kits : List Kit) → SomeGave 0 kits [] kits
-gave_none kits = record {
-  kits = refl;
-  gone = λ k d p lt. absurd (omega (arith, lt));
-  still = λ k d le. refl;
-}
 
 pub gave_more : (n : ℕ) (before : List Kit) (posters posters' : List Sender) (p : Sender) (after after' : List Kit) (e kit : Kit)
     → length posters ≡ n → n < length after → posters' ≡ posters ++ p ∷ [] → after' ≡ set after n kit → GivesPoster (get_or after n e) p kit
@@ -72,19 +69,6 @@ gave_more n before posters posters' p after after' e kit count within is wrote g
       (subst (λ y. GivesPoster (get_or before k d) (get_or posters k x) y) (sym (get_or-set_other after n k kit d there)) (gave.gone k d x early)));
   still = λ k d le. get_or-set_other after n k kit d (λ e. absurd (omega (arith, e, le))) ∙ gave.still k d (omega (arith, le));
 }))
-
-pub gave_all : (n : ℕ) (before : List Kit) (posters : List Sender) (after : List Kit) → length posters ≡ n → n ≡ length before → SomeGave n before posters after → EachGivesPoster before posters after
-gave_all n before posters after count all gave = record {
-  count = count ∙ all;
-  kits = gave.kits;
-  each = λ k d p lt. gave.gone k d p (omega (arith, lt, all));
-}
-
--- the one that did not give its poster yet has one
-pub has_next : (n : ℕ) (before : List Kit) (posters : List Sender) (after : List Kit) (d : Kit) → n < length after → HavePosters before → SomeGave n before posters after → 0 < length (get_or after n d).posters.items
-has_next n before posters after d within have gave =
-    let same = gave.kits in
-    subst (λ (x : Kit). 0 < length x.posters.items) (sym (gave.still n d (omega arith))) (have n d (omega (arith, within, same)))
 
 -- a sender's entries in a history that begins with what its poster has seen, and has no more of them
 pub own_entries : (p : Sender) (k : ℕ) (entries : List Entry) → p.sender ≡ k → IsPrefix p.view.seen entries → made_in p.sender entries ≡ own_count p → entries_by k entries ≡ own p
@@ -161,13 +145,6 @@ pub record AreRetired (orig : List Kit) (records : List QueueRecord) (kits : Lis
   pub loopers : map (λ (q : QueueRecord). q.looper) records ≡ range_with_len 0 (length records)
   pub all : HaveAll orig records
   pub left : HaveLeft (length records) orig kits
-
-pub retired_none : (kits : List Kit) → AreRetired kits [] kits
-retired_none kits = record {
-  loopers = refl;
-  all = λ k q d p r lt none. absurd (omega (arith, none));
-  left = record { count = refl; each = λ k d lt. record { posters = refl; frames = refl; pass = refl } };
-}
 
 -- the next queue has its looper's constants
 pub next_constants : (lockstep : Bool) (s : Script) (pool : TableId) (queues yielded rest : List (Shared TableId)) (q : Shared TableId) (n : ℕ)

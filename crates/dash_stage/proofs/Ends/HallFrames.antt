@@ -55,13 +55,6 @@ pub record AreTaken (s : Script) (looper : ℕ) (c : SharedFrames) (number : ℕ
   pub placed : (k : ℕ) (d : Kit) (p : Pass) → k < number → get_or passes k p ≡ get_or (get_or orig (holder_of s looper k) d).frames.items (length (given s looper c (holder_of s looper k) 0 k)) p
   pub left : HaveFramesLeft (λ k. length (given s looper c k 0 number)) orig kits
 
-pub taken_none : (s : Script) (looper : ℕ) (c : SharedFrames) (kits : List Kit) → AreTaken s looper c 0 kits [] kits
-taken_none s looper c kits = record {
-  order = λ k d lt. absurd (omega (arith, lt));
-  placed = λ k d p lt. absurd (omega (arith, lt));
-  left = record { count = refl; each = λ k d lt. record { frames = refl; pass = refl } };
-}
-
 -- the next pass in the kit of its holder
 pub next_frames : (s : Script) (looper : ℕ) (c : SharedFrames) (number : ℕ) (orig : List Kit) (passes : List Pass) (kits : List Kit) (h : ℕ) (d : Kit)
     → number < s.threads + 3 → h ≡ holder_of s looper number → h < length orig → BeginWithPasses s looper c orig → AreTaken s looper c number orig passes kits

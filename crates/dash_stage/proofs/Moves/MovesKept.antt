@@ -45,7 +45,7 @@ use Rattle.dash_stage.proofs.Moves.StageMoves.{eligible_same, over_moves_none, l
 use Rattle.dash_stage.proofs.Stages.Turned.{Turned, MovedOn}
 use Rattle.dash_stage.proofs.Stages.StageTurns.{heard_entries}
 use Rattle.dash_stage.proofs.Played.PlayedTurns.{advanced_sound}
-use Rattle.dash_stage.proofs.Moves.MoveLaws.{MakesNoMove, move_to, moves_stay, one_move, MayGoOn, Stays, Goes, main_at, one_time, moved_together, due_before}
+use Rattle.run_model.proofs.MoveLaws.{MakesNoMove, move_to, moves_stay, one_move, MayGoOn, Stays, Goes, main_at, one_time, moved_together, due_before}
 
 -- ---- when a queue is over
 

@@ -23,7 +23,7 @@ use Rattle.dash_stage.specs.Sharing.{OfKits}
 use Rattle.dash_stage.specs.Timeliness.{whole_on}
 use Rattle.dash_stage.specs.Moves.{moves_by, AreMoved}
 use Rattle.dash_stage.proofs.Ends.HallEnds.{some_of}
-use Rattle.dash_stage.proofs.Moves.MoveLaws.{main_at}
+use Rattle.run_model.proofs.MoveLaws.{main_at}
 use Rattle.dash_stage.proofs.Moves.MovesKept.{moves_at, moves_count}
 use Rattle.dash_stage.proofs.Ends.TimelyRecords.{is_seen, within, all_sound, known}
 use Rattle.run_model.specs.Moments.{in_lockstep}

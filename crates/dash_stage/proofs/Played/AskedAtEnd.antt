@@ -21,7 +21,7 @@ use Rattle.dash_stage.specs.Timeliness.{AreSound}
 use Rattle.dash_stage.proofs.Ends.HallEnds.{some_of}
 use Rattle.dash_stage.proofs.Played.Asked.{HasAskedInTurn}
 use Rattle.dash_stage.proofs.Played.InTurn.{in_controller, looper_made, idle_made, thread_asked}
-use Rattle.dash_stage.proofs.Sharing.LooperShares.{looper_parts}
+use Rattle.dash_loopers.proofs.LooperShares.{looper_parts}
 
 module _ (s : Script) (st : Stage) (is : IsStage s st) (run : HaveRunInLockstep s s.blocks st.threads.items) (sound : AreSound s st.controller) (now : AskUpToNow s s.blocks st) where
   pub asked_at_end : (k : ℕ) (l : StageLooper) → k < length st.loopers.items → (a : LooperState) → StandsBetweenRounds s (slice_index_or st.loopers.items k l) a → (p : Pass)

@@ -37,7 +37,7 @@ use Rattle.dash_stage.specs.Sharing.{OfPasses, AreUnheard, HaveHeardNothing, Hav
 use Rattle.dash_stage.specs.Stages.{IsStage, HaveRunInLockstep}
 use Rattle.dash_stage.specs.Timeliness.{AreSound}
 use Rattle.dash_stage.proofs.Ends.HallEnds.{some_of}
-use Rattle.dash_stage.proofs.Sharing.LooperShares.{looper_parts}
+use Rattle.dash_loopers.proofs.LooperShares.{looper_parts}
 
 -- ---- lists
 

@@ -28,7 +28,7 @@ use Rattle.dash_stage.specs.Asking.{IsAskedInTurn, AskInTurn, AskUpToNow}
 use Rattle.dash_stage.proofs.BlockTimes.Limits.{ends_early}
 use Rattle.dash_stage.proofs.Ends.HallEnds.{some_of}
 use Rattle.dash_stage.proofs.Played.InTurn.{idle_front, in_thread, in_controller, thread_made, looper_made, idle_made}
-use Rattle.dash_stage.proofs.Sharing.LooperShares.{looper_parts}
+use Rattle.dash_loopers.proofs.LooperShares.{looper_parts}
 
 module _ (s : Script) (text : HasText s) (st st' : Stage) (is : IsStage s st) (is' : IsStage s st') (clock_is : st'.time ≡ st.time) (same' : HaveHeardTheSame s st')
     (back : AreSound s st'.controller → AreSound s st.controller) (threads : AtEach (ThreadKeeps HaveHeard) st.threads.items st'.threads.items)

@@ -27,7 +27,7 @@ use Rattle.looper_run.specs.Holding.{Sender}
 use Rattle.choreographer.specs.Known.{Pass}
 use Rattle.run_model.specs.AskedSoFar.{tokens_in}
 use Rattle.run_model.specs.Moments.{Mode, IfLockstep}
-use Rattle.run_model.specs.Control.{NotBefore, Timing, befores, are_on_time, are_controls, is_controlled}
+use Rattle.run_model.specs.Control.{AnyTime, Timing, befores, are_on_time, are_controls, is_controlled}
 use Rattle.run_model.specs.Parts.{is_quit_by_others, disposed_count, sent_on}
 use Rattle.run_model.specs.Loopers.{LooperState, SentCall, first_looper, ActsLead, closing, IsSent, asked_then, has_frames}
 use Rattle.run_model.specs.FrameRecords.{are_whole, are_run_then, asks_in, AreAskedInTurn}
@@ -59,9 +59,10 @@ use Rattle.dash_stage.proofs.Ends.Carried.{numbered_count, threads_asked}
 use Rattle.dash_stage.proofs.Controller.Controlling.{turns_on, pass_count}
 use Rattle.dash_stage.proofs.Controller.Controls.{main_is_not_disposed, looks_dispose}
 use Rattle.dash_stage.proofs.Played.Dispatched.{each_looper, dispatches_of_records}
-use Rattle.dash_stage.proofs.Played.Disposing.{thread_disposes_nothing, controls_dispose_nothing, none_of_all, none_by, none_counted, none_disposed, calls_dispose_nothing, calls_are_all, closing_sent, befores_are, befores_end}
+use Rattle.dash_loopers.proofs.Disposing.{thread_disposes_nothing, controls_dispose_nothing, none_of_all, none_by, none_counted, none_disposed, calls_dispose_nothing, calls_are_all, closing_sent}
+use Rattle.dash_stage.proofs.Played.Disposing.{befores_are, befores_end}
 use Rattle.dash_stage.proofs.Ends.HallEnds.{some_of}
-use Rattle.dash_stage.proofs.Played.OwnLooks.{NoneDisposes, LooksAtOwn, looks_at_own, none_elsewhere}
+use Rattle.dash_loopers.proofs.OwnLooks.{NoneDisposes, LooksAtOwn, looks_at_own, none_elsewhere}
 use Rattle.dash_stage.proofs.Played.Standing.{HasLeftIn, HasStarted, HasFramed, StandsAt}
 use Rattle.dash_stage.proofs.Ends.TimelyRecords.{few, in_posters, within, history, number, is_seen, setting_is}
 
@@ -78,7 +79,7 @@ one_elsewhere k x apart = let there = ne_eqb x.queue k apart in rw there refl
 
 -- the look that closes looper k
 abbrev last_look : ℕ → ℕ → SentCall
-last_look k at = record { queue = k; ask = Makes (Next at); reply = Some Disposed; timing = NotBefore 0 }
+last_look k at = record { queue = k; ask = Makes (Next at); reply = Some Disposed; timing = AnyTime }
 
 -- on another queue the acts cause no more than the calls so far
 closing_elsewhere : (r k at : ℕ) → r ≢ k → (t : Bool) → sent_on r (if t then [] else last_look k at ∷ []) ≡ []
@@ -226,13 +227,13 @@ module _ (mode : Mode) (s : Script) (queues : List QueueRecord) (k : ℕ) (j : J
       let at = moment_of e.call in
       let look = last_look k at in
       let ends = befores_end (looper_sender s k) es cs e whole (calls_dispose_nothing (entries_by (looper_sender s k) es)) is in
-      let late : are_on_time (NotBefore 0 ∷ []) (ends.0 ∷ []) ≡ true = and_from (nat_le 0 ends.0.clock) true (le-leb 0 ends.0.clock (omega arith)) refl in
+      let late : are_on_time (AnyTime ∷ []) (ends.0 ∷ []) ≡ true = refl in
       run_of at x
       (subst (λ l. AreFor IsSent [] l (entries_by (looper_sender s k) es)) (sym (caused_side k at a side))
       (subst (λ (l : List Entry). AreFor IsSent [] (sent_on k a.sent ++ look ∷ []) l) (sym whole) (AreFor-snoc IsSent (sent_on k a.sent) look cs e (calls_here x) (closing_sent k (tokens_in cs) e is))))
       (λ t. (λ i. are_on_time (timings (caused_side k at a side i)) (ends.1 i))
       ∙ (ap (λ ts. are_on_time ts (befores_called (looper_sender s k) es ++ ends.0 ∷ [])) (map-append (λ (y : SentCall). y.timing) (sent_on k a.sent) (look ∷ []))
-      ∙ are_on_time-snoc (timings (sent_on k a.sent)) (NotBefore 0) (befores_called (looper_sender s k) es) ends.0 (t.here x) late))
+      ∙ are_on_time-snoc (timings (sent_on k a.sent)) AnyTime (befores_called (looper_sender s k) es) ends.0 (t.here x) late))
 
 -- the parts of what is said of the controller's calls on a queue
 controlled_parts : (main lockstep : Bool) (n end : ℕ) (es : List Entry) → is_controlled main lockstep n end es ≡ true

@@ -19,7 +19,7 @@ use Rattle.dash_script.specs.Reading.{HasText}
 use Rattle.looper_run.specs.Holding.{Sender}
 use Rattle.looper_run.specs.Round.{is_ended}
 use Rattle.run_model.specs.Planned.{controller, looper_sender, sender_count, entries_by}
-use Rattle.run_model.specs.Control.{Before, Timing, At, InBlock, Exactly, NotBefore, is_on_time, are_on_time, befores, come_first}
+use Rattle.run_model.specs.Control.{Before, Timing, At, InBlock, Exactly, AnyTime, is_on_time, are_on_time, befores, come_first}
 use Rattle.run_model.specs.Parts.{befores_after, sent_on}
 use Rattle.run_model.specs.Loopers.{LooperState, SentCall}
 use Rattle.run_model.specs.FrameRecords.{asks_in}
@@ -38,7 +38,7 @@ use Rattle.dash_stage.specs.Sharing.{HaveSeenTheSame}
 use Rattle.dash_stage.specs.Timeliness.{whole_on, AreSound, IsAtTime}
 use Rattle.dash_stage.specs.Playing.{CallsCameFirst, befores_called, IsMet, AreCallsOnTime, IsTimelyLooper, IsInTime, AreInTime, IsInStep, PlaysOn}
 use Rattle.dash_stage.proofs.BlockTimes.BlocksFirst.{first_more}
-use Rattle.dash_stage.proofs.Sharing.LooperShares.{looper_parts, own_kept}
+use Rattle.dash_loopers.proofs.LooperShares.{looper_parts, own_kept}
 use Rattle.loop_model.proofs.AfterLaws.{disposed_stays}
 use Rattle.dash_stage.proofs.Stages.Timely.{none_of, befores-append, befores_count, on_time_more, clock_stays, befores_at}
 use Rattle.dash_stage.proofs.Stages.StageWhole.{as_many, queues_count, looper_entries, looper_sees, sound_front, none_behind, threads_heard, thread_made_none}
@@ -115,7 +115,7 @@ module _ (s : Script) (q time : ℕ) where
     at_one r queue (At t) apart h on = ap At (met_one queue (At t) h)
     at_one r queue (InBlock t) apart h on = absurd h
     at_one r queue (Exactly t) apart h on = absurd (apart (sym on ∙ h.1))
-    at_one r queue (NotBefore t) apart h on = absurd h
+    at_one r queue AnyTime apart h on = absurd h
 
     module _ (a b : LooperState) (g : GoesOnTo q k looks time a b) where
       each_timed : AllByRecursion (λ x. IsTimedBy q k looks time x.queue x.timing) g.more

@@ -40,7 +40,7 @@ use Rattle.dash_stage.specs.Stages.{IsStage}
 use Rattle.dash_stage.specs.Sharing.{HaveSeenTheSame}
 use Rattle.dash_stage.specs.Timeliness.{whole_on, AreSound}
 use Rattle.dash_stage.specs.Playing.{befores_called, AreCallsOnTime, ArePlayed}
-use Rattle.dash_stage.proofs.Sharing.LooperShares.{looper_parts, looper_within, own_kept, after_within, with_rest}
+use Rattle.dash_loopers.proofs.LooperShares.{looper_parts, looper_within, own_kept, after_within, with_rest}
 use Rattle.dash_stage.proofs.Stages.StageTurns.{for_count}
 use Rattle.dash_stage.proofs.Stages.StageWhole.{as_many, looper_entries, looper_sees, looper_made_none, sound_grown, none_behind}
 use Rattle.dash_stage.proofs.Stages.Timely.{timely_others}

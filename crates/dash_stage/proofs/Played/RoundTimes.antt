@@ -15,7 +15,7 @@ use Rattle.loop_model.proofs.LegalLaws.{IsLegal-front, IsLegalAfter-back}
 use Rattle.loop_model.proofs.NumberLaws.{AreNumbered-front}
 use Rattle.dash_script.specs.declared.script.Script.{Script}
 use Rattle.run_model.specs.Planned.{entries_by, controller, sender_count}
-use Rattle.run_model.specs.Control.{Before, before, befores_from, Timing, At, InBlock, Exactly, NotBefore, is_on_time, are_on_time}
+use Rattle.run_model.specs.Control.{Before, before, befores_from, Timing, At, InBlock, Exactly, AnyTime, is_on_time, are_on_time}
 use Rattle.run_model.proofs.RunLaws.{entries_by-others, befores_from-append}
 use Rattle.dash_loopers.specs.Loopers.{IsSoundOn, setting_for}
 use Rattle.dash_loopers.specs.Played.{is_disposal, calls_in, IsTimedBy}
@@ -69,7 +69,7 @@ met_one time at (At t) b met (clock_is, inl now) = or_left _ _ (eq-eqb b.clock t
 met_one time at (At t) b met (clock_is, inr (gone, by)) = or_right _ _ (and_from _ _ gone (le-leb b.clock t (omega (arith, clock_is, by, met))))
 met_one time at (InBlock t) b met either = absurd met
 met_one time at (Exactly t) b met (clock_is, either) = eq-eqb b.clock t (clock_is ∙ sym met)
-met_one time at (NotBefore t) b met either = absurd met
+met_one time at AnyTime b met either = absurd met
 
 all_met : (time at : ℕ) (us : List Timing) (bs : List Before) → length us ≡ length bs → AllByRecursion (IsMet time at) us → AllByRecursion (StoodAt time at) bs → are_on_time us bs ≡ true
 all_met time at [] [] long met stood = refl
@@ -153,4 +153,4 @@ module _ (s : Script) (q time : ℕ) where
       looks_after es looks (IsLegalAfter-back set (empty_base (sender_count s)) [] es looks (legal_whole (es ++ looks) sound)) sound none at k t e lt (ap (λ x. x.call) is ∙ call)
   looks_at es looks sender now clock_was queue (InBlock t) sound none at same h = absurd h
   looks_at es looks sender now clock_was queue (Exactly t) sound none at same h = h.0 ∙ same
-  looks_at es looks sender now clock_was queue (NotBefore t) sound none at same h = absurd h
+  looks_at es looks sender now clock_was queue AnyTime sound none at same h = absurd h

@@ -11,7 +11,7 @@ use Rattle.frame_phases.specs.declared.entry.FrameEntry.{FrameEntry}
 use Rattle.looper_run.specs.Holding.{Sender}
 use Rattle.dash_script.specs.declared.script.Script.{Script}
 use Rattle.choreographer.specs.Known.{SharedFrames}
-use Rattle.run_model.specs.Planned.{sender_count, controller}
+use Rattle.run_model.specs.Planned.{controller}
 use Rattle.dash_hall.specs.declared.hall.Hall.{Hall}
 use Rattle.dash_hall.specs.declared.kit.Kit.{Kit}
 use Rattle.dash_threads.specs.declared.thread.PostingThread.{PostingThread}
@@ -21,7 +21,7 @@ use Rattle.dash_hall.specs.Kits.{badge_of, badge_for, frame_badge_of, frame_badg
 use Rattle.dash_threads.specs.Threads.{IsThread}
 use Rattle.dash_loopers.specs.Loopers.{IsLooper}
 use Rattle.dash_stage.specs.Controllers.{parts_handed_out, parts_in, IsControllerIn}
-use Rattle.dash_stage.specs.Stages.{AreKitsFrom, AreThreadsFrom, AreLoopersFrom, AreFirstKits, AreFirstLoopers, AreLoopers, AreSenderKits}
+use Rattle.dash_stage.specs.Stages.{AreKitsFrom, AreThreadsFrom, AreLoopersFrom, AreFirstKits, AreFirstLoopers, AreSenderKits}
 use Rattle.dash_hall.proofs.Badges.{alike_length, queue_count, choreographer_count}
 use Rattle.dash_stage.proofs.Controller.FrameLists.{nothing_handed_out}
 use Rattle.dash_stage.proofs.Ends.HallEnds.{numbers_more}
@@ -143,23 +143,6 @@ first_more P (y ∷ ys) x all at zero d lt = all 0 d (omega arith)
 first_more P (y ∷ ys) x all at (suc k) d lt = first_more (λ n z. P (suc n) z) ys x (λ n e below. all (suc n) e (omega (arith, below))) at k d (omega (arith, lt))
 
 module _ (s : Script) (hall : Hall) where
-  pub kits_from : (kits : List Kit) → AreKitsOf s hall kits → AreKitsFrom s hall 0 kits
-  kits_from kits are =
-      let all = are.count in record {
-        count = omega (arith, all);
-        each = λ k d lt. subst (λ m. IsKitOf s hall m (slice_index_or kits k d)) (let same : k ≡ k + 0 = omega arith in same) (are.each k d lt);
-      }
-
-  pub kits_of : (kits : List Kit) → length kits ≡ sender_count s → AreFirstKits s hall kits → AreKitsOf s hall kits
-  kits_of kits count first = record { count = count; each = first }
-
-  pub loopers_from : (ls : List StageLooper) → AreLoopers s hall ls → AreLoopersFrom s hall 0 ls
-  loopers_from ls are =
-      let all = are.0 in record {
-        count = omega (arith, all);
-        each = λ k d lt. let is = are.1 k d lt in (is.0, is.1 ∙ (let same : k ≡ k + 0 = omega arith in same));
-      }
-
   -- one looper more has given its journal and its kit back
   pub looper_back : (js js' : List Journal) (ls ls' : List StageLooper) (kits kits' : List Kit) (l : StageLooper) (j : Journal) (kit : Kit)
       → AreLoopersFrom s hall (length js) ls → 0 < length ls → l ≡ slice_index_or ls 0 l → ls' ≡ remove ls 0 → length kits ≡ s.threads + length js → AreFirstKits s hall kits

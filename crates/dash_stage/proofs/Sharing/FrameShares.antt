@@ -20,7 +20,7 @@ use Rattle.dash_loopers.specs.Loopers.{LooperRest, rest_in, IsLooper, LooperKeep
 use Rattle.dash_stage.specs.declared.stage.Stage.{Stage}
 use Rattle.dash_stage.specs.Stages.{IsStageIn}
 use Rattle.dash_stage.specs.Sharing.{StageKeeps, OfPasses, OfSenders, HaveSeenTheSame, HavePassesHeard, SharesFramesAt}
-use Rattle.dash_stage.proofs.Sharing.LooperShares.{looper_parts, looper_self}
+use Rattle.dash_loopers.proofs.LooperShares.{looper_parts, looper_self}
 use Rattle.dash_stage.proofs.Sharing.StageShares.{of_senders_then}
 
 module _ {lockstep : Bool} (s : Script) (st : Stage) (is : IsStageIn lockstep s st) (place : ℕ) (near : place < s.loopers) (c : SharedFrames) (at : c ≡ get_or st.hall.choreographers.items place c) where

@@ -10,8 +10,8 @@ use Rattle.dash_threads.specs.Threads.{TellsPass, HearsPass}
 use Rattle.dash_loopers.specs.declared.looper.StageLooper.{StageLooper}
 use Rattle.dash_loopers.specs.Loopers.{OfItsPasses, TellsPasses, HearsPasses}
 use Rattle.dash_stage.specs.Sharing.{OfPasses}
-use Rattle.dash_stage.proofs.Sharing.ThreadShares.{thread_then}
-use Rattle.dash_stage.proofs.Sharing.LooperShares.{looper_then}
+use Rattle.dash_threads.proofs.ThreadShares.{thread_then}
+use Rattle.dash_loopers.proofs.LooperShares.{looper_then}
 
 -- a pass that heard others is still one of its choreographer
 pub still_of : (p q : Pass) (c : SharedFrames) → PassHasHeard p q → IsPassOf p c → IsPassOf q c
@@ -67,9 +67,6 @@ tells_hears place whole x y z t h =
 -- so did a looper
 pub looper_told : (P : Pass → Type 0) (x y : StageLooper) → TellsPasses x y → OfItsPasses P x → OfItsPasses P y
 looper_told P x y t of r is = of r (sym t.1 ∙ is)
-
-pub looper_of_weaker : (P Q : Pass → Type 0) → ((p : Pass) → P p → Q p) → (x : StageLooper) → OfItsPasses P x → OfItsPasses Q x
-looper_of_weaker P Q h x of r is = let both = of r is in (h r.frames both.0, h r.root.pass both.1)
 
 pub looper_tells_hears : (whole : List (ℕ × FrameEntry)) (x y z : StageLooper) → TellsPasses x y → HearsPasses whole y z → HearsPasses whole x z
 looper_tells_hears whole x y z t h = (looper_then AreKept AreKept AreKept (λ a b c f g. g ∙ f) x y z t.0 h.0, h.1)

@@ -32,8 +32,9 @@ use Rattle.dash_hall.proofs.Hearing.{have_heard, have_heard_then, have_heard_sel
 use Rattle.dash_hall.proofs.PassesHearing.{passes_heard_self, passes_heard_then, passes_heard_badges}
 use Rattle.dash_hall.proofs.Sharing.{each_weaker, each_self, each_then}
 use Rattle.dash_stage.proofs.Controller.FrameLists.{handed_heard}
-use Rattle.dash_stage.proofs.Sharing.ThreadShares.{thread_self, thread_weaker, thread_then, thread_kept, up_to_kept, of_threads_then}
-use Rattle.dash_stage.proofs.Sharing.LooperShares.{looper_self, looper_weaker, looper_then, looper_kept, looper_within, looper_posters, of_loopers_then}
+use Rattle.dash_threads.proofs.ThreadShares.{thread_self, thread_weaker, thread_then, thread_kept, up_to_kept}
+use Rattle.dash_stage.proofs.Sharing.SenderShares.{of_threads_then, of_loopers_then}
+use Rattle.dash_loopers.proofs.LooperShares.{looper_self, looper_weaker, looper_then, looper_kept, looper_within, looper_posters}
 
 -- the controller stays it
 pub controller_kept : {lockstep : Bool} (s : Script) (hall : Hall) (a b : Controller) → ControllerKeeps HaveHeard a b → IsControllerIn lockstep s hall a → IsControllerIn lockstep s hall b

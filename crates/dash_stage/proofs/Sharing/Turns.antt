@@ -13,7 +13,7 @@ use Rattle.dash_stage.specs.Stages.{AreLoopers, OthersHaveEnded}
 use Rattle.dash_script.specs.declared.script.Script.{Script}
 use Rattle.dash_hall.specs.declared.hall.Hall.{Hall}
 use Rattle.dash_hall.proofs.Hearing.{have_heard_self, have_heard_then}
-use Rattle.dash_stage.proofs.Sharing.LooperShares.{looper_self, looper_then}
+use Rattle.dash_loopers.proofs.LooperShares.{looper_self, looper_then}
 
 -- the same of the same loopers
 pub of_same : (R : StageLooper → StageLooper → Type 0) (a b x y : StageLooper) → a ≡ x → b ≡ y → R a b → R x y

@@ -26,7 +26,7 @@ use Rattle.dash_stage.specs.Stages.{AreThreads, AreLoopers}
 use Rattle.dash_stage.specs.Timeliness.{IsTimelyUpTo, AreTimelyUpTo, AreRested, WaitForNothing}
 use Rattle.dash_stage.specs.Playing.{befores_called, HaveBegun, IsInStep}
 use Rattle.dash_hall.proofs.Badges.{alike_length, queue_count}
-use Rattle.dash_stage.proofs.Sharing.LooperShares.{looper_posters}
+use Rattle.dash_loopers.proofs.LooperShares.{looper_posters}
 use Rattle.dash_stage.proofs.BlockTimes.BlocksFirst.{nothing_first}
 
 -- posters that have seen nothing have seen the same

@@ -28,7 +28,7 @@ use Rattle.dash_stage.specs.declared.control.Controller.{Controller}
 use Rattle.dash_stage.specs.declared.stage.Stage.{Stage}
 use Rattle.dash_stage.specs.Stages.{IsStage}
 use Rattle.dash_stage.specs.Timeliness.{whole_on, AreRested, MovesNot}
-use Rattle.dash_stage.proofs.Controller.Controls.{advance_alone}
+use Rattle.run_model.proofs.ControlLaws.{advance_alone}
 use Rattle.dash_stage.proofs.Ends.HallEnds.{some_of}
 use Rattle.dash_stage.proofs.Stages.StageTurns.{IsInTimeBy}
 use Rattle.dash_stage.proofs.Stages.StageWhole.{queues_count}

@@ -30,23 +30,22 @@ use Rattle.dash_stage.specs.declared.control.Controller.{Controller}
 use Rattle.dash_stage.specs.declared.stage.Stage.{Stage}
 use Rattle.dash_hall.specs.Growth.{own}
 use Rattle.dash_stage.specs.Controllers.{are_advances, IsMoving}
-use Rattle.dash_threads.specs.Threads.{IsUpTo, HasCalled, ThreadKeeps}
+use Rattle.dash_threads.specs.Threads.{IsUpTo, HasCalled}
 use Rattle.dash_loopers.specs.Loopers.{IsSoundOn, is_disposal, setting_for, is_given_up, LooperKeeps}
-use Rattle.dash_stage.specs.Stages.{IsStage, HaveRunInLockstep, EachRunsBlock, LoopersGoOn}
+use Rattle.dash_stage.specs.Stages.{IsStage, HaveRunInLockstep, LoopersGoOn}
 use Rattle.dash_hall.specs.Hearing.{AtEach, HaveHeard}
 use Rattle.dash_stage.specs.Sharing.{HaveSeenTheSame}
 use Rattle.dash_stage.specs.Timeliness.{whole_on, AreSound, IsTimelyUpTo, AreTimelyUpTo, TurnsOn, EachTurnsOn, HasHaltedLast}
 use Rattle.dash_stage.specs.Playing.{AreAtBlock}
-use Rattle.dash_stage.proofs.Played.OwnLooks.{NoneDisposes}
-use Rattle.dash_stage.proofs.Played.Disposing.{lines_dispose_nothing, none_of_all, none_answered}
+use Rattle.dash_loopers.proofs.OwnLooks.{NoneDisposes}
+use Rattle.dash_loopers.proofs.Disposing.{lines_dispose_nothing, none_of_all, none_answered}
 use Rattle.dash_stage.proofs.Controller.Controls.{looks_dispose}
 use Rattle.dash_stage.proofs.BlockTimes.Blocks.{lines_more}
 use Rattle.run_model.proofs.FreshLaws.{all_reached_on, one_reached}
 use Rattle.dash_stage.proofs.BlockTimes.BlocksReached.{main_reached}
-use Rattle.dash_stage.proofs.BlockTimes.BlockOrder.{called_in, in_order_block, in_order_one}
+use Rattle.run_model.proofs.BlockOrder.{called_in, in_order_block, in_order_one}
 use Rattle.dash_stage.proofs.Stages.Timely.{back_all, in_time_one, in_time_more, before_quit_one, before_quit_block, moves_quit_not, timely_others, timely_block}
 use Rattle.dash_stage.proofs.Ends.HallEnds.{some_of}
-use Rattle.dash_stage.proofs.Sharing.ThreadShares.{up_to_kept}
 use Rattle.dash_stage.proofs.Stages.Turned.{Turned}
 use Rattle.dash_stage.proofs.Stages.StageWhole.{as_many, controller_entries, thread_entries, looper_made_none, sound_front, sound_grown, none_behind}
 use Rattle.dash_stage.proofs.Moves.StageMoves.{controls_above, longer, turned_on, turned_left, sound_by_turns}
@@ -267,8 +266,3 @@ pub go_on_kept : (R : List Sender → List Sender → Type 0) (ls ls' : List Sta
 go_on_kept R ls ls' kept on k d lt =
     let within : k < length ls = subst (λ (n : ℕ). k < n) kept.long lt in
     ap is_given_up (kept.each k d within).last ∙ on k d within
-
--- what a thread does with a block, where others are heard after it
-pub continues_kept : (s : Script) (b : Block) (ts ms us : List PostingThread) → length ms ≡ length ts → EachRunsBlock s b ts ms → AtEach (ThreadKeeps HaveHeard) ms us → EachRunsBlock s b ts us
-continues_kept s b ts ms us long on kept k d lt past rest whole up =
-    up_to_kept in_lockstep s (past ++ lines_in (slice_index_or ts k d).number b) (slice_index_or ms k d) (slice_index_or us k d) (kept.each k d (subst (λ (n : ℕ). k < n) (sym long) lt)) (on k d lt past rest whole up)

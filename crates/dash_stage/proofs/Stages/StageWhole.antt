@@ -31,8 +31,8 @@ use Rattle.dash_hall.proofs.Badges.{alike_length, alike_at}
 use Rattle.run_model.proofs.FreshLaws.{all_reached_on}
 use Rattle.dash_stage.proofs.Controller.Controlling.{poster_count}
 use Rattle.dash_stage.proofs.Ends.HallEnds.{some_of}
-use Rattle.dash_stage.proofs.Sharing.LooperShares.{looper_within, looper_posters}
-use Rattle.dash_stage.proofs.BlockTimes.BlockOrder.{in_order_others}
+use Rattle.dash_loopers.proofs.LooperShares.{looper_within, looper_posters}
+use Rattle.run_model.proofs.BlockOrder.{in_order_others}
 use Rattle.dash_stage.proofs.Stages.Timely.{none_of, in_time_more, no_threads, before_quit_more, timely_others}
 
 abbrev pub seen : Sender → List Entry

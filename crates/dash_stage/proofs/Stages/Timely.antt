@@ -8,7 +8,6 @@ use Rattle.std.proofs.lemmas.List.Folds.{list_any-append}
 use Rattle.std.proofs.lemmas.List.{append-nil, append_cancel_left, map-append}
 use mathlib.Core.List.{IsPrefix}
 use Rattle.dash_script.specs.declared.script.Script.{Script}
-use Rattle.loop_model.specs.declared.reply.Reply.TheVariants.{Halted}
 use Rattle.loop_model.specs.declared.base.Base.{Base}
 use Rattle.loop_model.specs.declared.entry.Entry.{Entry}
 use Rattle.loop_model.specs.Entries.{is_halted, is_disposed}
@@ -28,7 +27,8 @@ use Rattle.run_model.proofs.ControlLaws.{each_behind-snoc, each_behind-append}
 use Rattle.run_model.proofs.RunLaws.{AreOfOthers, entries_by-append, entries_by-others, entries_by-unchanged, befores_after-append, befores-others, lines_on-append}
 use Rattle.dash_stage.specs.Timeliness.{IsAtTime}
 use Rattle.dash_stage.specs.Controllers.{are_advances, time_in}
-use Rattle.dash_stage.proofs.Controller.Controls.{advance_alone, own_advances, time_by_controller}
+use Rattle.run_model.proofs.ControlLaws.{advance_alone}
+use Rattle.dash_stage.proofs.Controller.Controls.{own_advances, time_by_controller}
 
 -- what holds of all members of a list holds of those behind
 pub back_all : {X : Type 0} (P : X → Type 0) (xs ys : List X) → AllByRecursion P (xs ++ ys) → AllByRecursion P ys
@@ -83,13 +83,6 @@ pub ends_halted-snoc : (es : List Entry) (e : Entry) → ends_halted (es ++ e �
 ends_halted-snoc [] e = refl
 ends_halted-snoc (f ∷ []) e = refl
 ends_halted-snoc (f ∷ g ∷ es) e = ends_halted-snoc (g ∷ es) e
-
--- a halt after which no sender has made an entry is the last entry of the history
-pub halted_last : (set : Setting) (b : Base) (es whole : List Entry) (e : Entry) → IsPrefix (es ++ e ∷ []) whole → AreNumbered set b whole → e.reply ≡ Halted
-    → ((k : ℕ) → k < set.senders → entries_by k whole ≡ entries_by k (es ++ e ∷ [])) → (whole ≡ es ++ e ∷ []) × (ends_halted whole ≡ true)
-halted_last set b es whole e front numbered halted same =
-    let is = is_whole set b (es ++ e ∷ []) whole front numbered same in
-    (is, ap ends_halted is ∙ ends_halted-snoc es e ∙ ap is_halted halted)
 
 -- what stood before a sender's entries, in a longer history
 pub befores-append : (k : ℕ) (es more : List Entry) → befores k (es ++ more) ≡ befores k es ++ befores_after k es more
@@ -260,15 +253,6 @@ module _ (set : Setting) (n : ℕ) (last : n + 1 ≡ set.senders) where
         let base = empty_base set.senders in
         time_by_controller set n last lockstep (es ++ more) legal numbered ∙ ap time_in (entries_by-unchanged n es more (of_others n more none))
         ∙ sym (time_by_controller set n last lockstep es (IsLegal-front set base es more legal) (AreNumbered-front set base es more numbered))
-
-    -- so it does over each part of what came more
-    pub clock_stays_within : (es more part : List Entry) → IsPrefix part more → IsLegal set (empty_base set.senders) (es ++ more) → AreNumbered set (empty_base set.senders) (es ++ more) → entries_by n more ≡ []
-        → clock (empty_base set.senders) (es ++ part) ≡ clock (empty_base set.senders) es
-    clock_stays_within es more part front legal numbered none =
-        let base = empty_base set.senders in
-        let whole : es ++ more ≡ (es ++ part) ++ front.0 = ap (λ l. es ++ l) (sym front.1) ∙ sym (append_assoc es part front.0) in
-        clock_stays es part (IsLegal-front set base (es ++ part) front.0 (subst (IsLegal set base) whole legal)) (AreNumbered-front set base (es ++ part) front.0 (subst (AreNumbered set base) whole numbered))
-        (none_front (entries_by n part) (entries_by n front.0) (sym (entries_by-append n part front.0) ∙ ap (entries_by n) front.1 ∙ none))
 
     -- the time stands still, and a queue that was disposed of stays so
     pub stays_at : (time : ℕ) (es more : List Entry) → IsLegal set (empty_base set.senders) (es ++ more) → AreNumbered set (empty_base set.senders) (es ++ more) → entries_by n more ≡ []

@@ -1,5 +1,5 @@
 -- The controller's turns on its queues, behind which all have seen the same again.
-use Rattle.std.proofs.Common.{◌≡◌, ◌<◌, ◌⊎◌, inl, inr, ℕ, Bool, true, max, false, List, [], ◌∷◌, ◌++◌, length, subst}
+use Rattle.std.proofs.Common.{◌≡◌, ◌<◌, ℕ, Bool, true, max, false, List, length, subst}
 use Rattle.std.specs.Prelude.{slice_index_or}
 use Rattle.loop_model.specs.declared.entry.Entry.{Entry}
 use Rattle.dash_script.specs.declared.script.Script.{Script}
@@ -52,18 +52,6 @@ pub record MovedOn (s : Script) (time : ℕ) (st : Stage) (c : Controller) (st' 
   pub due : AreDue s time st
   pub come : drained ≡ true → HaveReachedTime s time c
   pub stuck : drained ≡ false → AreStuck s time s.loopers c
-
--- turns of one kind are turns of a wider one
-step_weaker : (P Q : Entry → Type 0) → ((e : Entry) → P e → Q e) → (n : ℕ) (found left : List Entry) → (left ≡ found) ⊎ ((e : Entry) × (left ≡ found ++ e ∷ []) × P e × (e.sender ≡ n))
-    → (left ≡ found) ⊎ ((e : Entry) × (left ≡ found ++ e ∷ []) × Q e × (e.sender ≡ n))
-step_weaker P Q weaker n found left (inl same) = inl same
-step_weaker P Q weaker n found left (inr t) = inr (t.0, t.1, weaker t.0 t.2, t.3)
-
-pub turns_weaker : (P Q : Entry → Type 0) → ((e : Entry) → P e → Q e) → (c c' : Controller) → EachTurnsOn P c c' → EachTurnsOn Q c c'
-turns_weaker P Q weaker c c' turns = record {
-  long = turns.long;
-  each = λ q d lt. let t = turns.each q d lt in record { found = t.found; begins = t.begins; made = t.made; sender = t.sender; step = step_weaker P Q weaker (slice_index_or c.kit.posters.items q d).sender t.found _ t.step };
-}
 
 -- turns begin where they began, too, where the posters were the same before
 pub turns_from : (P : Entry → Type 0) (c mid c' : Controller) → mid.kit.posters ≡ c.kit.posters → EachTurnsOn P mid c' → EachTurnsOn P c c'

@@ -8,6 +8,7 @@ use Rattle.shared_queue.proofs.Gathers.{regrouped}
 use Rattle.dash_hall.specs.Kits.{frame_key, frame_constants}
 use Rattle.dash_stage.specs.Ending.{HaveAllPasses, AreFramesSealed}
 use Rattle.dash_hall.proofs.HallPasses.{given_all, given_are}
+use Rattle.dash_stage.proofs.Ends.HallEnds.{parted_at}
 use Rattle.dash_stage.proofs.Ends.HallFrames.{HaveEnded, ended_none, next_passes, next_constants, ends_more, ended_all}
 use Rattle.dash_stage.proofs.Controller.FrameEnds.{next_given, has_list, sealed_next, sealed_rest}
 use Rattle.dash_stage.proofs.records.frame_records.Goals as goal
@@ -38,7 +39,7 @@ frame_record-requires c =
     let x = c.in-Some.choreographer in
     let rest = into_iter_items c.next.new.self in
     let steps : into_iter_items at.choreographer-iterator ≡ x ∷ rest = c.in-Some.ensures.steps.0 in
-    let parts : at.yielded ++ x ∷ rest ≡ c.args.choreographers.items = ap (λ l. at.yielded ++ l) (sym steps) ∙ (at.invariant.parts ∙ c.into_iter-choreographer-iterator.ensures.into_iter_gives.0) in
+    let parts = parted_at _ _ _ _ _ _ c.in-Some.ensures.steps.0 at.invariant.parts c.into_iter-choreographer-iterator.ensures.into_iter_gives.0 in
     let one = next_constants s c.args.choreographers.items at.yielded rest x at.looper parts at.invariant.looper c.requires.choreographers in
     let have = next_given s at.looper x rest (into_iter_items at.choreographer-iterator) c.args.kits.now.items at.kits.items at.records.items steps one.1 c.requires.count at.invariant.ended in
     record {
@@ -59,7 +60,7 @@ remove-parts-requires c =
     let x = c.in-Some.choreographer in
     let rest = into_iter_items c.next.new.self in
     let steps : into_iter_items at.choreographer-iterator ≡ x ∷ rest = c.in-Some.ensures.steps.0 in
-    let parts : at.yielded ++ x ∷ rest ≡ c.args.choreographers.items = ap (λ l. at.yielded ++ l) (sym steps) ∙ (at.invariant.parts ∙ c.into_iter-choreographer-iterator.ensures.into_iter_gives.0) in
+    let parts = parted_at _ _ _ _ _ _ c.in-Some.ensures.steps.0 at.invariant.parts c.into_iter-choreographer-iterator.ensures.into_iter_gives.0 in
     let few = (next_constants s c.args.choreographers.items at.yielded rest x at.looper parts at.invariant.looper c.requires.choreographers).1 in
     let have = next_given s at.looper x rest (into_iter_items at.choreographer-iterator) c.args.kits.now.items at.kits.items at.records.items steps few c.requires.count at.invariant.ended in
     let many = at.invariant.ended.count in
@@ -70,9 +71,7 @@ pub overflow_add-looper : goal.overflow_add-looper
 overflow_add-looper c =
     let at = c.loop-choreographer in
     let s = c.args.script.now in
-    let all = c.into_iter-choreographer-iterator.ensures.into_iter_gives.0 in
-    let steps : into_iter_items at.choreographer-iterator ≡ c.in-Some.choreographer ∷ into_iter_items c.next.new.self = c.in-Some.ensures.steps.0 in
-    let parts : at.yielded ++ c.in-Some.choreographer ∷ into_iter_items c.next.new.self ≡ c.args.choreographers.items = ap (λ l. at.yielded ++ l) (sym steps) ∙ (at.invariant.parts ∙ all) in
+    let parts = parted_at _ _ _ _ _ _ c.in-Some.ensures.steps.0 at.invariant.parts c.into_iter-choreographer-iterator.ensures.into_iter_gives.0 in
     let few = (next_constants s c.args.choreographers.items at.yielded _ c.in-Some.choreographer at.looper parts at.invariant.looper c.requires.choreographers).1 in
     let fits : s.threads + s.loopers < 100 = c.requires.fits in
     omega (arith, few, fits)
@@ -89,8 +88,7 @@ loop-choreographer-preserved c =
     let looper = at.invariant.looper in
     let count = at.invariant.count in
     let senders : length c.args.kits.now.items ≡ s.threads + s.loopers + 1 = c.requires.count in
-    let all = c.into_iter-choreographer-iterator.ensures.into_iter_gives.0 in
-    let parts : at.yielded ++ x ∷ rest ≡ c.args.choreographers.items = ap (λ l. at.yielded ++ l) (sym steps) ∙ (at.invariant.parts ∙ all) in
+    let parts = parted_at _ _ _ _ _ _ c.in-Some.ensures.steps.0 at.invariant.parts c.into_iter-choreographer-iterator.ensures.into_iter_gives.0 in
     let few = (next_constants s c.args.choreographers.items at.yielded rest x at.looper parts looper c.requires.choreographers).1 in
     record {
       parts = regrouped at.yielded _ _ _ x steps at.invariant.parts;

@@ -10,7 +10,7 @@ use Rattle.dash_hall.proofs.HallSteps.{within_parts}
 use Rattle.shared_queue.specs.Known.{Shared}
 use Rattle.run_model.specs.Planned.{history_of}
 use Rattle.dash_stage.specs.Ending.{AreSealed}
-use Rattle.dash_stage.proofs.Ends.HallEnds.{next_have, next_queue, next_constants, kept_looper, retires_more, histories_more, retired_all}
+use Rattle.dash_stage.proofs.Ends.HallEnds.{parted_at, next_have, next_queue, next_constants, kept_looper, retires_more, histories_more, retired_all}
 use Rattle.dash_stage.proofs.Controller.SealedEnds.{has_list, sealed_next, sealed_rest}
 use Rattle.dash_stage.proofs.records.queue_records.Goals as goal
 
@@ -18,9 +18,7 @@ pub queue_record-requires : goal.queue_record-requires
 queue_record-requires c =
     let at = c.loop-queue in
     let can = c.requires in
-    let all = c.into_iter-queue-iterator.ensures.into_iter_gives.0 in
-    let steps : into_iter_items at.queue-iterator ≡ c.in-Some.queue ∷ into_iter_items c.next.new.self = c.in-Some.ensures.steps.0 in
-    let parts : at.yielded ++ c.in-Some.queue ∷ into_iter_items c.next.new.self ≡ c.args.queues.items = ap (λ l. at.yielded ++ l) (sym steps) ∙ (at.invariant.parts ∙ all) in
+    let parts = parted_at _ _ _ _ _ _ c.in-Some.ensures.steps.0 at.invariant.parts c.into_iter-queue-iterator.ensures.into_iter_gives.0 in
     let one = next_queue can.queues.0 c.args.script.now c.args.pool.now c.args.queues.items at.yielded _ c.in-Some.queue (length at.records.items) c.args.kits.now.items at.kits.items parts at.invariant.count can.queues.1 can.count can.kits at.invariant.retired.left in
     record {
       of_pool = at.invariant.pass;
@@ -32,9 +30,7 @@ queue_record-requires c =
 pub remove-parts-requires : goal.remove-parts-requires
 remove-parts-requires c =
     let at = c.loop-queue in
-    let all = c.into_iter-queue-iterator.ensures.into_iter_gives.0 in
-    let steps : into_iter_items at.queue-iterator ≡ c.in-Some.queue ∷ into_iter_items c.next.new.self = c.in-Some.ensures.steps.0 in
-    let parts : at.yielded ++ c.in-Some.queue ∷ into_iter_items c.next.new.self ≡ c.args.queues.items = ap (λ l. at.yielded ++ l) (sym steps) ∙ (at.invariant.parts ∙ all) in
+    let parts = parted_at _ _ _ _ _ _ c.in-Some.ensures.steps.0 at.invariant.parts c.into_iter-queue-iterator.ensures.into_iter_gives.0 in
     let next = (next_queue c.requires.queues.0 c.args.script.now c.args.pool.now c.args.queues.items at.yielded _ c.in-Some.queue (length at.records.items) c.args.kits.now.items at.kits.items parts at.invariant.count c.requires.queues.1 c.requires.count c.requires.kits at.invariant.retired.left).1 in
     let many = at.invariant.retired.left.count in
     let senders = c.requires.count in
@@ -48,21 +44,19 @@ loop-queue-preserved c =
     let q = c.in-Some.queue in
     let r = c.in_ok-record.record in
     let rest = into_iter_items c.next.new.self in
-    let all = c.into_iter-queue-iterator.ensures.into_iter_gives.0 in
     let steps : into_iter_items at.queue-iterator ≡ q ∷ rest = c.in-Some.ensures.steps.0 in
-    let parts : at.yielded ++ q ∷ rest ≡ c.args.queues.items = ap (λ l. at.yielded ++ l) (sym steps) ∙ (at.invariant.parts ∙ all) in
+    let parts = parted_at _ _ _ _ _ _ c.in-Some.ensures.steps.0 at.invariant.parts c.into_iter-queue-iterator.ensures.into_iter_gives.0 in
     let count = at.invariant.count in
-    let constants = (next_queue c.requires.queues.0 s c.args.pool.now c.args.queues.items at.yielded rest q (length at.records.items) c.args.kits.now.items at.kits.items parts count c.requires.queues.1 c.requires.count c.requires.kits at.invariant.retired.left).0 in
+    let one = next_queue c.requires.queues.0 s c.args.pool.now c.args.queues.items at.yielded rest q (length at.records.items) c.args.kits.now.items at.kits.items parts count c.requires.queues.1 c.requires.count c.requires.kits at.invariant.retired.left in
     let items : c.push.new.self.items ≡ at.records.items ++ r ∷ [] = c.in_ok-push.ensures.items in
-    let next = (next_queue c.requires.queues.0 s c.args.pool.now c.args.queues.items at.yielded rest q (length at.records.items) c.args.kits.now.items at.kits.items parts count c.requires.queues.1 c.requires.count c.requires.kits at.invariant.retired.left).1 in
-    let have = next_have q at.kits.items next in
+    let have = next_have q at.kits.items one.1 in
     record {
       parts = regrouped at.yielded _ _ _ q steps at.invariant.parts;
       long = let was = at.invariant.long in let gone = c.in-Some.ensures.steps.1 in let short = ap length steps in omega arith;
       pass = c.in_ok-record.ensures.pass;
       count = let more = length-append at.records.items (r ∷ []) in let done = length-append at.yielded (q ∷ []) in let now = ap length items in omega (arith, now, more, done, count);
       sealed = subst (AreSealed c.queue_record.new.kits.items) (sym c.remove-parts.ensures.items) (sealed_rest at.kits.items at.sealed.items at.invariant.sealed have (history_of r) c.queue_record.new.kits.items c.in_ok-record.ensures.kits);
-      retired = retires_more c.args.kits.now.items at.kits.items c.queue_record.new.kits.items at.records.items _ r (kept_looper c.requires.queues.0 s c.args.pool.now (length at.records.items) q.constants r constants c.in_ok-record.ensures.kept) c.in_ok-record.ensures.kits items at.invariant.retired;
+      retired = retires_more c.args.kits.now.items at.kits.items c.queue_record.new.kits.items at.records.items _ r (kept_looper c.requires.queues.0 s c.args.pool.now (length at.records.items) q.constants r one.0 c.in_ok-record.ensures.kept) c.in_ok-record.ensures.kits items at.invariant.retired;
       histories = λ m are by.
           let mine = next_constants m.lockstep s c.args.pool.now _ at.yielded rest q (length at.records.items) (ap (λ l. at.yielded ++ l) (sym steps) ∙ at.invariant.parts) count are in
           let few : length at.records.items < s.loopers = omega (arith, queues_counted c.requires.queues.0 s c.args.pool.now c.args.queues.items c.requires.queues.1, within_parts at.yielded rest c.args.queues.items q (length at.records.items) parts count) in

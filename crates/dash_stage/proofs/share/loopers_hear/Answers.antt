@@ -1,7 +1,7 @@
 use Rattle.std.proofs.Common.{◌<◌, length, arith}
 use Rattle.dash_hall.specs.Hearing.{HaveHeardAt}
 use Rattle.dash_loopers.specs.Loopers.{LooperKeeps, posters_of}
-use Rattle.dash_stage.proofs.Sharing.OneByOne.{known_next, heard_next}
+use Rattle.dash_hall.proofs.OneByOne.{known_next, heard_next}
 use Rattle.dash_stage.proofs.share.loopers_hear.Goals as goal
 
 pub hear-requires-clause-known : goal.hear-requires-clause-known

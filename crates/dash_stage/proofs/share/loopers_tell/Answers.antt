@@ -1,7 +1,7 @@
 use Rattle.std.proofs.Common.{◌<◌, ◌≤◌, length, arith}
 use Rattle.dash_hall.specs.Hearing.{AreKept}
 use Rattle.dash_loopers.specs.Loopers.{LooperKeeps, posters_of}
-use Rattle.dash_stage.proofs.Sharing.OneByOne.{told_next, all_told}
+use Rattle.dash_hall.proofs.OneByOne.{told_next, all_told}
 use Rattle.dash_stage.proofs.share.loopers_tell.Goals as goal
 
 pub loop-k-preserved : goal.loop-k-preserved

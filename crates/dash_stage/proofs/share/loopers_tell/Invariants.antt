@@ -1,7 +1,7 @@
 use Rattle.dash_hall.specs.Hearing.{HasHeard, AreKept}
 use Rattle.dash_loopers.specs.Loopers.{LooperKeeps, posters_of}
 use Rattle.dash_hall.proofs.Sharing.{FirstAre}
-use Rattle.dash_stage.proofs.Sharing.OneByOne.{Tells}
+use Rattle.dash_hall.proofs.OneByOne.{Tells}
 use Rattle.dash_stage.proofs.share.loopers_tell.Given as goal
 
 abbrev pub invariant-loop-k : goal.invariant-loop-k

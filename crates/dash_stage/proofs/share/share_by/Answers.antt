@@ -8,8 +8,9 @@ use Rattle.dash_threads.specs.Threads.{ThreadKeeps}
 use Rattle.dash_loopers.specs.Loopers.{LooperKeeps}
 use Rattle.dash_stage.specs.Sharing.{OfLoopers}
 use Rattle.dash_hall.proofs.Hearing.{ready_kept, known_kept, heard_then}
-use Rattle.dash_stage.proofs.Sharing.ThreadShares.{thread_then, of_threads_then}
-use Rattle.dash_stage.proofs.Sharing.LooperShares.{looper_then, of_loopers_then, loopers_within}
+use Rattle.dash_threads.proofs.ThreadShares.{thread_then}
+use Rattle.dash_stage.proofs.Sharing.SenderShares.{of_threads_then, of_loopers_then, loopers_within}
+use Rattle.dash_loopers.proofs.LooperShares.{looper_then}
 use Rattle.dash_stage.proofs.share.share_by.Goals as goal
 
 pub threads_hear-requires-clause-at : goal.threads_hear-requires-clause-at

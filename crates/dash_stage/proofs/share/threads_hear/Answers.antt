@@ -2,7 +2,7 @@ use Rattle.std.proofs.Common.{◌<◌, length, arith}
 use Rattle.dash_hall.specs.Hearing.{HaveHeardAt}
 use Rattle.dash_threads.specs.declared.thread.PostingThread.{PostingThread}
 use Rattle.dash_threads.specs.Threads.{ThreadKeeps}
-use Rattle.dash_stage.proofs.Sharing.OneByOne.{known_next, heard_next}
+use Rattle.dash_hall.proofs.OneByOne.{known_next, heard_next}
 use Rattle.dash_stage.proofs.share.threads_hear.Goals as goal
 
 pub hear-requires-clause-known : goal.hear-requires-clause-known

@@ -2,7 +2,7 @@ use Rattle.std.proofs.Common.{◌<◌, ◌≤◌, length, arith}
 use Rattle.dash_hall.specs.Hearing.{AreKept}
 use Rattle.dash_threads.specs.declared.thread.PostingThread.{PostingThread}
 use Rattle.dash_threads.specs.Threads.{ThreadKeeps}
-use Rattle.dash_stage.proofs.Sharing.OneByOne.{told_next, all_told}
+use Rattle.dash_hall.proofs.OneByOne.{told_next, all_told}
 use Rattle.dash_stage.proofs.share.threads_tell.Goals as goal
 
 pub loop-k-preserved : goal.loop-k-preserved

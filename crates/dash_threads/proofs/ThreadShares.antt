@@ -3,9 +3,8 @@ use Rattle.std.proofs.Common.{◌≡◌, ℕ, ◌<◌, List, length, get_or, ref
 use Rattle.loop_model.specs.declared.entry.Entry.{Entry}
 use Rattle.looper_run.specs.Holding.{Sender}
 use Rattle.dash_threads.specs.declared.thread.PostingThread.{PostingThread}
-use Rattle.dash_hall.specs.Hearing.{HaveHeard, AtEach}
+use Rattle.dash_hall.specs.Hearing.{HaveHeard}
 use Rattle.dash_threads.specs.Threads.{ThreadKeeps, IsThread, IsUpTo, labels_kept, tokens_kept}
-use Rattle.dash_stage.specs.Sharing.{OfThreads}
 use Rattle.dash_script.specs.declared.script.Script.{Script}
 use Rattle.run_model.specs.AskedSoFar.{tokens_in}
 use Rattle.run_model.specs.Moments.{Mode}
@@ -18,7 +17,6 @@ use Rattle.dash_hall.proofs.Clocking.{clocked_same}
 use Rattle.dash_hall.proofs.Hearing.{heard_badges}
 use Rattle.dash_hall.proofs.PassesHearing.{passes_heard_self, passes_heard_then, passes_heard_badges}
 use Rattle.dash_threads.proofs.ThreadHears.{asked_heard, turned_heard}
-use Rattle.dash_stage.proofs.Sharing.OneByOne.{of_then}
 
 -- one after the other
 pub thread_then : (R S T : List Sender → List Sender → Type 0) → ((a b c : List Sender) → R a b → S b c → T a c) → (x y z : PostingThread) → ThreadKeeps R x y → ThreadKeeps S y z → ThreadKeeps T x z
@@ -47,10 +45,6 @@ thread_weaker R S h x y f = record {
   passed = f.passed;
   gave_up = f.gave_up;
 }
-
--- what holds of the threads' posters before holds of them after
-pub of_threads_then : (P Q : List Sender → Type 0) (R : List Sender → List Sender → Type 0) → ((a b : List Sender) → R a b → P a → Q b) → (xs ys : List PostingThread) → AtEach (ThreadKeeps R) xs ys → OfThreads P xs → OfThreads Q ys
-of_threads_then P Q R h xs ys e of = of_then (λ (t : PostingThread). t.kit.posters.items) (ThreadKeeps R) P Q (λ x y k. h x.kit.posters.items y.kit.posters.items k.posters) xs ys e of
 
 -- a thread stays one
 pub thread_kept : (s : Script) (hall : Hall) (a b : PostingThread) → ThreadKeeps HaveHeard a b → IsThread s hall a → IsThread s hall b

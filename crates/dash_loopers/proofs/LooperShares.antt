@@ -25,8 +25,7 @@ use Rattle.dash_loopers.specs.declared.player.Parts.{Parts}
 use Rattle.dash_loopers.specs.declared.looper.StageLooper.{StageLooper}
 use Rattle.dash_hall.specs.Kits.{badge_of, badge_for, frame_badge_of, IsHall, ArePostersOf}
 use Rattle.dash_loopers.specs.Loopers.{ArePartsOf, IsLooper, is_given_up, LooperRest, LooperKeeps, posters_of, others_in, rest_in, IsWithin}
-use Rattle.dash_hall.specs.Hearing.{HasHeard, HaveHeard, AtEach, AreKept}
-use Rattle.dash_stage.specs.Sharing.{OfLoopers, AreWithin}
+use Rattle.dash_hall.specs.Hearing.{HasHeard, HaveHeard}
 use Rattle.dash_loopers.proofs.LooperLists.{map-insert, insert_removed}
 use Rattle.dash_loopers.proofs.LooperDisposes.{disposes_same}
 use Rattle.dash_loopers.proofs.LooperTold.{told_same}
@@ -34,7 +33,6 @@ use Rattle.dash_loopers.proofs.LooperKits.{looper_of, others_many, its_queue}
 use Rattle.dash_hall.proofs.Hearing.{heard_badges}
 use Rattle.dash_hall.proofs.PassesHearing.{pass_heard_badge}
 use Rattle.dash_loopers.proofs.LooperPasses.{may_self, may_then}
-use Rattle.dash_stage.proofs.Sharing.OneByOne.{of_then}
 use Rattle.choreographer.specs.Known.{IfAlone}
 
 -- one after the other
@@ -67,10 +65,6 @@ looper_weaker R S h x y f = record {
   rest = f.rest;
   last = f.last;
 }
-
--- what holds of the loopers' posters before holds of them after
-pub of_loopers_then : (P Q : List Sender → Type 0) (R : List Sender → List Sender → Type 0) → ((a b : List Sender) → R a b → P a → Q b) → (xs ys : List StageLooper) → AtEach (LooperKeeps R) xs ys → OfLoopers P xs → OfLoopers Q ys
-of_loopers_then P Q R h xs ys e of = of_then posters_of (LooperKeeps R) P Q (λ x y k. h (posters_of x) (posters_of y) k.posters) xs ys e of
 
 -- what holds of one of two facts holds of one of three
 or_more : (a x y : Bool) → (a || x) ≡ true → (a || (x || y)) ≡ true
@@ -106,19 +100,11 @@ insert_long xs i x =
     omega (arith, parts, whole, sum)
 
 -- the looper's number stays that of one of its posters
-within_then : (a b : StageLooper) → b.number ≡ a.number → length (posters_of b) ≡ length (posters_of a) → IsWithin a → IsWithin b
+pub within_then : (a b : StageLooper) → b.number ≡ a.number → length (posters_of b) ≡ length (posters_of a) → IsWithin a → IsWithin b
 within_then a b number long w =
     let before = insert_long (others_in a.parts) a.number a.looper.held.poster in
     let after = insert_long (others_in b.parts) b.number b.looper.held.poster in
     omega (arith, number, long, before, after, w)
-
--- the same of each looper
-pub loopers_within : (xs ys : List StageLooper) → AtEach (LooperKeeps AreKept) xs ys → AreWithin xs → AreWithin ys
-loopers_within xs ys e w = λ k d lt.
-    let long = e.long in
-    let within : k < length xs = omega (arith, lt) in
-    let same = e.each k d within in
-    within_then (get_or xs k d) (get_or ys k d) same.number (ap length same.posters) (w k d within)
 
 -- the parts that are there
 with_parts : (P : Parts → Type 0) (o : Option Parts) → IsSomeAnd o P → (parts : Parts) × (o ≡ Some parts) × P parts
