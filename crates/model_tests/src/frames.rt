@@ -39,46 +39,70 @@ fn take_empty(rt: &impl Abort, frames: &mut FrameState, phases: u32, now: u64, t
     }
 }
 
-fn callback(number: u64, phase: u32, due: u64, id: u64, token: Option<u64>) -> Callback {
-    Callback {
-        number,
-        phase,
-        due,
-        id,
-        token,
-    }
-}
+/// The one callback of the frames that are late.
+const LATE: Callback = Callback {
+    number: 0,
+    phase: 3,
+    due: 0,
+    id: 7,
+    token: None,
+};
 
-// The one callback of the frames that are late.
-fn late() -> Callback {
-    callback(0, 3, 0, 7, None)
-}
-
-fn begun(vsync: u64, start: u64, time: u64) -> FrameEntry {
-    FrameEntry::Begin { vsync, start, time }
-}
-
-fn taken(phase: u32, now: u64, time: u64) -> FrameEntry {
-    FrameEntry::Take { phase, now, time }
-}
-
-// What two frames record, of which the second has that callback.
-fn two_frames() -> [FrameEntry; 12] {
-    [
-        begun(100, 100, 100),
-        taken(0, 100, 100),
-        taken(1, 100, 100),
-        taken(2, 100, 100),
-        taken(3, 100, 100),
-        begun(100, 135, 130),
-        FrameEntry::Posted(late()),
-        taken(0, 155, 130),
-        taken(1, 155, 130),
-        taken(2, 155, 130),
-        taken(3, 155, 140),
-        FrameEntry::Ran { number: 0 },
-    ]
-}
+/// What two frames record, of which the second has that callback.
+const TWO_FRAMES: [FrameEntry; 12] = [
+    FrameEntry::Begin {
+        vsync: 100,
+        start: 100,
+        time: 100,
+    },
+    FrameEntry::Take {
+        phase: 0,
+        now: 100,
+        time: 100,
+    },
+    FrameEntry::Take {
+        phase: 1,
+        now: 100,
+        time: 100,
+    },
+    FrameEntry::Take {
+        phase: 2,
+        now: 100,
+        time: 100,
+    },
+    FrameEntry::Take {
+        phase: 3,
+        now: 100,
+        time: 100,
+    },
+    FrameEntry::Begin {
+        vsync: 100,
+        start: 135,
+        time: 130,
+    },
+    FrameEntry::Posted(LATE),
+    FrameEntry::Take {
+        phase: 0,
+        now: 155,
+        time: 130,
+    },
+    FrameEntry::Take {
+        phase: 1,
+        now: 155,
+        time: 130,
+    },
+    FrameEntry::Take {
+        phase: 2,
+        now: 155,
+        time: 130,
+    },
+    FrameEntry::Take {
+        phase: 3,
+        now: 155,
+        time: 140,
+    },
+    FrameEntry::Ran { number: 0 },
+];
 
 #[test]
 fn late_frames_are_moved_up_by_whole_intervals(rt: HostRuntime) -> Result<(), NoMemory> {
@@ -113,12 +137,46 @@ fn late_frames_are_moved_up_by_whole_intervals(rt: HostRuntime) -> Result<(), No
         Scheduling::Asked { pulse: 140 }
     );
     take_empty(&rt, &mut frames, 3, 155, 130);
-    assert_batch(&rt, frames.take(3, 155), 140, &[late()]);
+    assert_batch(&rt, frames.take(3, 155), 140, &[LATE]);
     let kept = frames.into_kept();
     assert!(rt; kept.looper == 0 && kept.interval == 10 && kept.phases == 4);
-    assert!(rt; kept.entries.as_slice() == two_frames().as_slice());
+    assert!(rt; kept.entries.as_slice() == TWO_FRAMES.as_slice());
     Ok(())
 }
+
+/// A callback that is due at once.
+const AT_ONCE: Callback = Callback {
+    number: 4,
+    phase: 0,
+    due: 0,
+    id: 9,
+    token: None,
+};
+
+/// Callbacks of one phase, in the order in which they run.
+const BY_DUE: [Callback; 3] = [
+    Callback {
+        number: 1,
+        phase: 1,
+        due: 1,
+        id: 6,
+        token: Some(3),
+    },
+    Callback {
+        number: 0,
+        phase: 1,
+        due: 2,
+        id: 5,
+        token: None,
+    },
+    Callback {
+        number: 2,
+        phase: 1,
+        due: 2,
+        id: 7,
+        token: None,
+    },
+];
 
 #[test]
 fn callbacks_run_by_due_time_then_number(rt: HostRuntime) -> Result<(), NoMemory> {
@@ -148,33 +206,41 @@ fn callbacks_run_by_due_time_then_number(rt: HostRuntime) -> Result<(), NoMemory
         frames.begin_frame(16_666_667, 16_666_667),
         Beginning::Began { time: 16_666_667 }
     );
-    assert_batch(
-        &rt,
-        frames.take(0, 16_666_667),
-        16_666_667,
-        &[callback(4, 0, 0, 9, None)],
-    );
-    let by_due = [
-        callback(1, 1, 1, 6, Some(3)),
-        callback(0, 1, 2, 5, None),
-        callback(2, 1, 2, 7, None),
-    ];
-    assert_batch(&rt, frames.take(1, 16_666_667), 16_666_667, &by_due);
+    assert_batch(&rt, frames.take(0, 16_666_667), 16_666_667, &[AT_ONCE]);
+    assert_batch(&rt, frames.take(1, 16_666_667), 16_666_667, &BY_DUE);
     assert!(rt; !frames.has_due(1, 100));
     Ok(())
 }
 
-// A frame with one callback, of which the posting was handed out before.
-fn one_frame() -> [FrameEntry; 6] {
-    [
-        begun(100, 100, 100),
-        taken(0, 100, 100),
-        taken(1, 100, 100),
-        taken(2, 100, 100),
-        taken(3, 100, 100),
-        FrameEntry::Ran { number: 0 },
-    ]
-}
+/// What a frame with that callback records behind its posting.
+const ONE_FRAME: [FrameEntry; 6] = [
+    FrameEntry::Begin {
+        vsync: 100,
+        start: 100,
+        time: 100,
+    },
+    FrameEntry::Take {
+        phase: 0,
+        now: 100,
+        time: 100,
+    },
+    FrameEntry::Take {
+        phase: 1,
+        now: 100,
+        time: 100,
+    },
+    FrameEntry::Take {
+        phase: 2,
+        now: 100,
+        time: 100,
+    },
+    FrameEntry::Take {
+        phase: 3,
+        now: 100,
+        time: 100,
+    },
+    FrameEntry::Ran { number: 0 },
+];
 
 #[test]
 fn a_record_is_handed_out_in_parts(rt: HostRuntime) -> Result<(), NoMemory> {
@@ -184,23 +250,15 @@ fn a_record_is_handed_out_in_parts(rt: HostRuntime) -> Result<(), NoMemory> {
         Scheduling::Asked { pulse: 100 }
     );
     let first = frames.seal()?;
-    assert!(rt; first.as_slice() == [FrameEntry::Posted(late())].as_slice());
+    assert!(rt; first.as_slice() == [FrameEntry::Posted(LATE)].as_slice());
     assert_eq!(rt;
         frames.begin_frame(100, 100),
         Beginning::Began { time: 100 }
     );
     take_empty(&rt, &mut frames, 3, 100, 100);
-    assert_batch(&rt, frames.take(3, 100), 100, &[late()]);
+    assert_batch(&rt, frames.take(3, 100), 100, &[LATE]);
     let second = frames.seal()?;
-    assert!(rt; second.as_slice() == one_frame().as_slice());
+    assert!(rt; second.as_slice() == ONE_FRAME.as_slice());
     assert!(rt; frames.into_kept().entries.is_empty());
-    Ok(())
-}
-
-fn assert_send<T: Send>(_value: &T) {}
-
-#[test]
-fn states_may_move_to_another_thread(rt: HostRuntime) -> Result<(), NoMemory> {
-    assert_send(&FrameState::new(rt.alloc(), 0, 10, 4)?);
     Ok(())
 }

@@ -2,8 +2,6 @@
 #![tactic(auto)]
 
 #[cfg(test)]
-mod fates_of_posts;
-#[cfg(test)]
 mod frames;
 #[cfg(test)]
 mod histories;

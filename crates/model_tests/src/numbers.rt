@@ -24,9 +24,12 @@ const NO_NUMBERS: [&[u8]; 8] = [
 ];
 
 #[test]
-fn numbers_are_read(rt: HostRuntime) -> Result<(), Fail> {
+fn numbers_are_read_and_written(rt: HostRuntime) -> Result<(), Fail> {
     for (word, value) in SPELLED {
         assert_eq!(rt; number(word), Some(value));
+        let mut out = Vec::new(rt.alloc());
+        push_number(&mut out, value).ok().ok_or("no memory")?;
+        assert_eq!(rt; out.as_slice(), word);
     }
     for word in NO_NUMBERS {
         assert_eq!(rt; number(word), None);
@@ -35,41 +38,18 @@ fn numbers_are_read(rt: HostRuntime) -> Result<(), Fail> {
 }
 
 #[test]
-fn numbers_are_written(rt: HostRuntime) -> Result<(), Fail> {
-    for (word, value) in SPELLED {
-        let mut out = Vec::new(rt.alloc());
-        push_number(&mut out, value).ok().ok_or("no memory")?;
-        assert_eq!(rt; out.as_slice(), word);
-    }
-    Ok(())
-}
-
-#[test]
-fn the_first_byte_parts(rt: HostRuntime) -> Result<(), Fail> {
+fn words_are_taken_one_by_one(rt: HostRuntime) {
     let (word, rest) = split_first(b"ab cd ef", b' ');
-    assert_eq!(rt; word, b"ab".as_slice());
-    assert_eq!(rt; rest, Some(b"cd ef".as_slice()));
+    assert_eq!(rt; (word, rest), (b"ab".as_slice(), Some(b"cd ef".as_slice())));
     let (whole, none) = split_first(b"abcd", b' ');
-    assert_eq!(rt; whole, b"abcd".as_slice());
-    assert_eq!(rt; none.is_none(), true);
-    Ok(())
-}
-
-#[test]
-fn words_are_taken(rt: HostRuntime) -> Result<(), Fail> {
+    assert_eq!(rt; (whole, none), (b"abcd".as_slice(), None));
     let mut words = Words::new(b"queue 7 side 4294967296");
     assert_eq!(rt; words.fixed(b"queue").is_some(), true);
     assert_eq!(rt; words.short(), Some(7));
     assert_eq!(rt; words.either(b"main", b"side"), Some(false));
     assert_eq!(rt; words.short(), None);
-    Ok(())
-}
-
-#[test]
-fn what_is_absent_is_taken(rt: HostRuntime) -> Result<(), Fail> {
     let mut words = Words::new(b"- 7");
     assert_eq!(rt; words.maybe_short(), Some(None));
     assert_eq!(rt; words.maybe_long(), Some(Some(7)));
     assert_eq!(rt; words.whole(true), Some(true));
-    Ok(())
 }

@@ -24,7 +24,9 @@ fn drain<S: Source>(source: &mut S, into: &mut Vec<u8>) -> Result<u64, Failed> {
 }
 
 #[test]
-fn a_source_gives_its_bytes_in_pieces(rt: HostRuntime) -> Result<(), Fail> {
+fn a_source_gives_its_bytes_in_pieces_and_fails_where_it_is_told(
+    rt: HostRuntime,
+) -> Result<(), Fail> {
     let alloc = rt.alloc();
     for (most, calls) in [(1, 8), (3, 3), (5, 2), (9, 2)] {
         let mut got = Vec::new(alloc);
@@ -36,12 +38,6 @@ fn a_source_gives_its_bytes_in_pieces(rt: HostRuntime) -> Result<(), Fail> {
         assert_eq!(rt; drain(&mut source, &mut got), Ok(calls));
         assert_eq!(rt; got.as_slice(), b"0 post 7".as_slice());
     }
-    Ok(())
-}
-
-#[test]
-fn a_source_fails_where_it_is_told(rt: HostRuntime) -> Result<(), Fail> {
-    let alloc = rt.alloc();
     let mut got = Vec::new(alloc);
     let fails = vec![in alloc; 1, 3]?;
     let mut source = MemSource::new(b"at 10".to_vec(alloc)?, 2, fails);
@@ -50,6 +46,10 @@ fn a_source_fails_where_it_is_told(rt: HostRuntime) -> Result<(), Fail> {
     assert_eq!(rt; drain(&mut source, &mut got), Err(Failed));
     assert_eq!(rt; drain(&mut source, &mut got), Ok(1));
     assert_eq!(rt; got.as_slice(), b"at 10".as_slice());
+    let mut got = Vec::new(alloc);
+    let mut source = StdSource::new(Cursor::new(b"end\n".as_slice()));
+    assert_eq!(rt; drain(&mut source, &mut got), Ok(1), "over the system's");
+    assert_eq!(rt; got.as_slice(), b"end\n".as_slice());
     Ok(())
 }
 
@@ -65,6 +65,12 @@ fn a_sink_holds_what_it_took(rt: HostRuntime) -> Result<(), Fail> {
     assert_eq!(rt; sink.bytes(), b"report ".as_slice());
     assert_eq!(rt; SureSink::new(16).write(b"end"), Ok(3));
     assert_eq!(rt; SureSink::new(2).write(b"end"), Ok(2));
+    assert_eq!(rt; StdSink::new(Vec::new(alloc)).write(b"end\n"), Ok(4));
+    let mut room = [0u8; 2];
+    let mut sink = StdSink::new(Cursor::new(room.as_mut_slice()));
+    assert_eq!(rt; sink.write(b"end"), Ok(2));
+    assert_eq!(rt; sink.write(b"d"), Err(Failed));
+    assert_eq!(rt; sink.write(b""), Ok(0));
     Ok(())
 }
 
@@ -113,26 +119,6 @@ fn senders_meet_at_a_gate(rt: HostRuntime) {
 }
 
 #[test]
-fn adapters_count_the_errors(rt: HostRuntime) -> Result<(), Fail> {
-    let alloc = rt.alloc();
-    let mut got = Vec::new(alloc);
-    let mut source = StdSource::new(Cursor::new(b"end\n".as_slice()));
-    assert_eq!(rt; drain(&mut source, &mut got), Ok(1));
-    assert_eq!(rt; got.as_slice(), b"end\n".as_slice());
-    let mut sink = StdSink::new(Vec::new(alloc));
-    assert_eq!(rt; sink.write(b"end\n"), Ok(4));
-    let mut room = [0u8; 2];
-    let mut sink = StdSink::new(Cursor::new(room.as_mut_slice()));
-    assert_eq!(rt; sink.write(b"end"), Ok(2));
-    assert_eq!(rt; sink.write(b"d"), Err(Failed));
-    assert_eq!(rt; sink.write(b""), Ok(0));
-    let clock = StdClock::new(&rt);
-    let first = clock.uptime_millis();
-    assert!(rt; first <= clock.uptime_millis());
-    Ok(())
-}
-
-#[test]
 fn threads_share_clocks_and_gates(rt: HostRuntime) {
     let steps = StepClock::new(1);
     let real = StdClock::new(&rt);
@@ -150,4 +136,6 @@ fn threads_share_clocks_and_gates(rt: HostRuntime) {
         },
     );
     assert_eq!(rt; (a.min(b), a.max(b)), (0, 1), "one of them reads first");
+    let first = real.uptime_millis();
+    assert!(rt; first <= real.uptime_millis());
 }

@@ -60,25 +60,6 @@ fn slots(nodes: &[PoolNode]) -> Option<u64> {
     Some(seen)
 }
 
-#[test]
-fn fifty_and_then_a_new_one(rt: HostRuntime) -> Result<(), Fail> {
-    let (pool, pass) = Pool::new(rt.alloc())?;
-    let drawn = draw(&pool, pass, rt.alloc(), 51)?;
-    assert!(rt; slots(drawn.nodes.as_slice()) == Some((1 << 50) - 1));
-    assert!(rt; drawn.fresh.as_slice() == [(0, 0)].as_slice());
-    assert!(rt; pool.close(drawn.pass) == 0);
-    Ok(())
-}
-
-#[test]
-fn a_dropped_message_leaves_its_slot_out(rt: HostRuntime) -> Result<(), Fail> {
-    let (pool, mut pass) = Pool::new(rt.alloc())?;
-    drop(pool.obtain(rt.alloc(), &mut pass));
-    let drawn = draw(&pool, pass, rt.alloc(), 50)?;
-    assert!(rt; drawn.nodes.len() == 49 && drawn.fresh.as_slice() == [(0, 0)].as_slice());
-    Ok(())
-}
-
 // Draws 30 times on each of two threads.
 fn draw_on_two<R: Threads + Sync>(
     rt: &R,
@@ -124,16 +105,6 @@ fn two_threads_share_the_slots(rt: HostRuntime) -> Result<(), Fail> {
     Ok(())
 }
 
-#[test]
-fn recycled_slots_are_free_again(rt: HostRuntime) -> Result<(), Fail> {
-    let (pool, pass) = Pool::new(rt.alloc())?;
-    let drawn = draw(&pool, pass, rt.alloc(), 50)?;
-    let pass = give(&pool, drawn);
-    let again = draw(&pool, pass, rt.alloc(), 50)?;
-    assert!(rt; slots(again.nodes.as_slice()) == Some((1 << 50) - 1));
-    Ok(())
-}
-
 // What one pass obtains another one recycles.
 fn obtain_and_recycle(pool: &Pool, taker: &mut PoolPass, giver: &mut PoolPass, alloc: Global)
     requires { (taker.old.home ≡ pool.now) × (giver.old.home ≡ pool.now) }
@@ -161,7 +132,27 @@ fn all_come_back(alloc: Global) -> Result<u32, NoMemory>
 }
 
 #[test]
-fn what_comes_back_is_free(rt: HostRuntime) -> Result<(), Fail> {
-    assert!(rt; all_come_back(rt.alloc())? == 50);
+fn slots_are_drawn_once_and_given_back(rt: HostRuntime) -> Result<(), Fail> {
+    let alloc = rt.alloc();
+    let all = Some((1 << 50) - 1);
+    let (pool, pass) = Pool::new(alloc)?;
+    let drawn = draw(&pool, pass, alloc, 51)?;
+    assert!(rt;
+        slots(drawn.nodes.as_slice()) == all && drawn.fresh.as_slice() == [(0, 0)].as_slice()
+    );
+    let again = draw(&pool, give(&pool, drawn), alloc, 50)?;
+    assert!(rt;
+        slots(again.nodes.as_slice()) == all,
+        "recycled slots are free again"
+    );
+    assert!(rt; pool.close(again.pass) == 0, "none was given back");
+    let (pool, mut pass) = Pool::new(alloc)?;
+    drop(pool.obtain(alloc, &mut pass));
+    let drawn = draw(&pool, pass, alloc, 50)?;
+    assert!(rt;
+        drawn.nodes.len() == 49,
+        "a dropped message leaves its slot out"
+    );
+    assert!(rt; all_come_back(alloc)? == 50);
     Ok(())
 }

@@ -1,5 +1,6 @@
 //! Idle handlers and watched descriptors by hand.
 
+use frame_phases::FrameState;
 use loop_model::NoMemory;
 use loop_sources::{Event, FdTable, IdleSet};
 use std::process::Abort;
@@ -16,9 +17,11 @@ fn assert_turns(rt: &impl Abort, set: &IdleSet, ids: &[u32]) -> Result<(), NoMem
 fn assert_send<T: Send>(_value: &T) {}
 
 #[test]
-fn sets_may_move_to_another_thread(rt: HostRuntime) {
+fn sets_and_frames_may_move_to_another_thread(rt: HostRuntime) -> Result<(), NoMemory> {
     assert_send(&IdleSet::empty(rt.alloc()));
     assert_send(&FdTable::empty(rt.alloc()));
+    assert_send(&FrameState::new(rt.alloc(), 0, 10, 4)?);
+    Ok(())
 }
 
 #[test]
@@ -41,7 +44,9 @@ fn handlers_that_answer_false_are_removed(rt: HostRuntime) -> Result<(), NoMemor
 }
 
 #[test]
-fn a_listener_that_answers_0_is_called_once(rt: HostRuntime) -> Result<(), NoMemory> {
+fn a_listener_that_answers_0_goes_and_a_renewal_of_the_watched_mask_changes_nothing(
+    rt: HostRuntime,
+) -> Result<(), NoMemory> {
     let mut table = FdTable::empty(rt.alloc());
     assert_eq!(rt; table.watched(5), None);
     table.set(5, 1, 0)?;
@@ -59,11 +64,6 @@ fn a_listener_that_answers_0_is_called_once(rt: HostRuntime) -> Result<(), NoMem
     assert!(rt; table.answer(5, 0, 0, 0));
     assert_eq!(rt; table.take_event(), Some(Event::Ignored));
     assert_eq!(rt; table.take_event(), None);
-    Ok(())
-}
-
-#[test]
-fn only_a_renewal_of_the_watched_mask_changes_nothing(rt: HostRuntime) -> Result<(), NoMemory> {
     let mut table = FdTable::empty(rt.alloc());
     table.set(5, 0, 6)?;
     table.set(5, 1, 6)?;

@@ -1,10 +1,11 @@
-// Worked examples on one queue, as tables of calls and answers. The plain queue of `loop_model` answers the same.
+// Worked examples on one queue, as tables of what is asked and what is said. The plain queue of `loop_model` says the same.
 
 ghost use Rattle.std.specs.Prelude.{◌≡◌, ◌<◌, true, false, IfOk};
 ghost use Rattle.loop_model.specs.Answers.{Setting};
 
-use crate::rows::{self, Example, Look, Move, Moving, Step};
-use loop_model::{Base, Call, Filter, Item, Kind, NoMemory, Post, Reply, Segment, plain};
+use crate::rows::{self, Example, PLAIN, Row, Said};
+use fate_ledger::fates;
+use loop_model::{Base, Call, Filter, Kind, NoMemory, Post, Reply, Segment, plain};
 use message_list::new_node;
 use message_slot::{Message, NoClaim};
 use queue_state::{
@@ -15,11 +16,6 @@ use std::alloc::Global;
 use std::process::Abort;
 use std::test::Fail;
 use when_queue::MsgNode;
-
-/// The recorded reply, and whether the call wakes.
-type Answer = (Option<Reply>, bool);
-
-const SILENT: Answer = (None, false);
 
 // The senders of the queues that are tried.
 const THREAD: u32 = 0;
@@ -37,151 +33,127 @@ fn node(alloc: Global, message: Message<NoClaim>) -> Result<MsgNode<NoClaim>, No
     }
 }
 
+/// What is said by this reply where the call wakes or not.
+const fn said(reply: Reply, wake: bool) -> Said {
+    if wake {
+        Said::Wakes(reply)
+    } else {
+        Said::Quiet(reply)
+    }
+}
+
 #[tactic(auto, using(queue_state::proofs::Stays::posts_stays))]
 fn post<R: Recorder>(
     alloc: Global,
     state: &mut QueueState<NoClaim, R>,
     post: &Post,
-) -> Result<Answer, NoMemory>
+) -> Result<Said, NoMemory>
     requires { 1 < state.old.setting.senders }
     ensures { state.new.setting ≡ state.old.setting }
 {
     let mut message = Message::blank();
     message.set_post(post);
     match state.post(THREAD, node(alloc, message)?) {
-        Posted::Accepted { number, wake } => Ok((Some(Reply::Accepted { number }), wake)),
-        Posted::Refused { place, node: _ } => Ok((Some(Reply::Refused { place }), false)),
+        Posted::Accepted { number, wake } => Ok(said(Reply::Accepted { number }, wake)),
+        Posted::Refused { place, node: _ } => Ok(Said::Quiet(Reply::Refused { place })),
         Posted::NoMemory(_) => Err(NoMemory),
     }
 }
 
 #[tactic(auto, using(queue_state::proofs::Stays::bars_stays))]
-fn post_barrier(
-    alloc: Global,
-    state: &mut QueueState<NoClaim>,
-    now: u64,
-) -> Result<Answer, NoMemory>
+fn post_barrier(alloc: Global, state: &mut QueueState<NoClaim>, now: u64) -> Result<Said, NoMemory>
     requires { 1 < state.old.setting.senders }
     ensures { state.new.setting ≡ state.old.setting }
 {
     match state.post_barrier(THREAD, now, node(alloc, Message::blank())?) {
-        BarrierPosted::Token { token } => Ok((Some(Reply::Token { token }), false)),
+        BarrierPosted::Token { token } => Ok(Said::Quiet(Reply::Token { token })),
         BarrierPosted::NoMemory(_) => Err(NoMemory),
     }
 }
 
 #[tactic(auto, using(queue_state::proofs::Stays::unbars_stays))]
-fn remove_barrier(state: &mut QueueState<NoClaim>, token: u64) -> Result<Answer, NoMemory>
+fn remove_barrier(state: &mut QueueState<NoClaim>, token: u64) -> Result<Said, NoMemory>
     requires { 1 < state.old.setting.senders }
     ensures { state.new.setting ≡ state.old.setting }
 {
     match state.remove_barrier(THREAD, token) {
-        BarrierGone::Unbarriered { node: _, wake } => Ok((Some(Reply::Unbarriered), wake)),
-        BarrierGone::NotPosted => Ok((Some(Reply::NotPosted), false)),
+        BarrierGone::Unbarriered { node: _, wake } => Ok(said(Reply::Unbarriered, wake)),
+        BarrierGone::NotPosted => Ok(Said::Quiet(Reply::NotPosted)),
         BarrierGone::NoMemory => Err(NoMemory),
     }
 }
 
 #[tactic(auto, using(queue_state::proofs::Stays::takes_stays))]
-fn remove(state: &mut QueueState<NoClaim>, filter: &Filter) -> Result<Answer, NoMemory>
+fn remove(state: &mut QueueState<NoClaim>, filter: &Filter) -> Result<Said, NoMemory>
     requires { 1 < state.old.setting.senders }
     ensures { state.new.setting ≡ state.old.setting }
 {
     match state.remove(THREAD, filter) {
         Taking::Removed(list) => {
             let count = list.len() as u64;
-            Ok((Some(Reply::Removed { count }), false))
+            Ok(Said::Quiet(Reply::Removed { count }))
         }
         Taking::NoMemory => Err(NoMemory),
     }
 }
 
 #[tactic(auto, using(queue_state::proofs::Stays::quits_stays))]
-fn quit(state: &mut QueueState<NoClaim>, safe: bool, now: u64) -> Result<Answer, NoMemory>
+fn quit<R: Recorder>(
+    state: &mut QueueState<NoClaim, R>,
+    safe: bool,
+    now: u64,
+) -> Result<Said, NoMemory>
     requires { 1 < state.old.setting.senders }
     ensures { state.new.setting ≡ state.old.setting }
 {
     match state.quit(THREAD, safe, now) {
-        Quitting::Done(_) => Ok((Some(Reply::QuitDone), true)),
-        Quitting::AlreadyQuit { place } => Ok((Some(Reply::AlreadyQuit { place }), false)),
-        Quitting::NotAllowed => Ok((Some(Reply::NotAllowed), false)),
+        Quitting::Done(list) => Ok(Said::Quits(list.len())),
+        Quitting::AlreadyQuit { place } => Ok(Said::Quiet(Reply::AlreadyQuit { place })),
+        Quitting::NotAllowed => Ok(Said::Quiet(Reply::NotAllowed)),
         Quitting::NoMemory => Err(NoMemory),
     }
 }
 
+/// Looks for a message, where an idle turn is owed or not.
 #[tactic(auto, using(queue_state::proofs::Stays::looks_stays))]
-fn next<R: Recorder>(state: &mut QueueState<NoClaim, R>, now: u64) -> Answer
+fn look<R: Recorder>(state: &mut QueueState<NoClaim, R>, now: u64, idle: bool) -> Said
     requires { 1 < state.old.setting.senders }
     ensures { state.new.setting ≡ state.old.setting }
 {
-    match state.next(LOOPER, now, false) {
-        Nexted::Taken { number, .. } => (Some(Reply::Dispatched { number }), false),
-        Nexted::End(_) => (Some(Reply::Disposed), false),
-        _ => SILENT,
+    match state.next(LOOPER, now, idle) {
+        Nexted::Taken { number, .. } => Said::Quiet(Reply::Dispatched { number }),
+        Nexted::Idle => Said::Idle,
+        Nexted::Wait { until } => Said::Waits(until),
+        Nexted::End(list) => Said::Ends(list.len()),
+        Nexted::Over => Said::Over,
     }
 }
 
 #[tactic(auto, using(queue_state::proofs::Stays::advances_stays))]
-fn advance(state: &mut QueueState<NoClaim>, now: u64) -> Result<Move, NoMemory>
+fn advance(state: &mut QueueState<NoClaim>, now: u64) -> Result<Said, NoMemory>
     requires senders { state.old.setting.senders ≡ 3 }
     requires lockstep { state.old.setting.lockstep ≡ true }
     ensures { state.new.setting ≡ state.old.setting }
 {
     match state.advance(CONTROLLER, now) {
-        Advancing::Advanced => Ok(Move::Done),
-        Advancing::Over => Ok(Move::Over),
-        Advancing::Reached { time } => Ok(Move::Reached(time)),
-        Advancing::NotDrained { number } => Ok(Move::NotDrained(number)),
+        Advancing::Advanced => Ok(Said::Quiet(Reply::Advanced)),
+        Advancing::Over => Ok(Said::Over),
+        Advancing::Reached { time } => Ok(Said::Reached(time)),
+        Advancing::NotDrained { number } => Ok(Said::NotDrained(number)),
         Advancing::NoMemory => Err(NoMemory),
     }
 }
 
 #[tactic(auto, using(queue_state::proofs::Stays::halts_stays))]
-fn halt(state: &mut QueueState<NoClaim>, now: u64) -> Move
+fn halt(state: &mut QueueState<NoClaim>, now: u64) -> Said
     requires senders { state.old.setting.senders ≡ 3 }
     requires main { state.old.setting.main ≡ true }
     ensures { state.new.setting ≡ state.old.setting }
 {
     match state.halt(CONTROLLER, now) {
-        Halting::Halted => Move::Done,
-        Halting::Over => Move::Over,
-        Halting::NotDrained { number } => Move::NotDrained(number),
-    }
-}
-
-/// The answer to a move that is recorded with this reply where it is made.
-fn moved(made: Move, reply: Reply) -> Answer {
-    match made {
-        Move::Done => (Some(reply), false),
-        _ => SILENT,
-    }
-}
-
-/// How many messages the first quit drops.
-#[tactic(auto, using(queue_state::proofs::Stays::quits_stays))]
-fn quit_safely<R: Recorder>(
-    state: &mut QueueState<NoClaim, R>,
-    now: u64,
-) -> Result<Option<usize>, NoMemory>
-    requires { 1 < state.old.setting.senders }
-    ensures { state.new.setting ≡ state.old.setting }
-{
-    match state.quit(THREAD, true, now) {
-        Quitting::Done(list) => Ok(Some(list.len())),
-        Quitting::NoMemory => Err(NoMemory),
-        _ => Ok(None),
-    }
-}
-
-/// Whether the looper waits then without limit.
-#[tactic(auto, using(queue_state::proofs::Stays::looks_stays))]
-fn waits(state: &mut QueueState<NoClaim>, now: u64) -> bool
-    requires { 1 < state.old.setting.senders }
-    ensures { state.new.setting ≡ state.old.setting }
-{
-    match state.next(LOOPER, now, false) {
-        Nexted::Wait { until } => until.is_none(),
-        _ => false,
+        Halting::Halted => Said::Quiet(Reply::Halted),
+        Halting::Over => Said::Over,
+        Halting::NotDrained { number } => Said::NotDrained(number),
     }
 }
 
@@ -192,14 +164,15 @@ fn seal(state: &mut QueueState<NoClaim>) -> Result<Segment, NoMemory>
     state.seal()
 }
 
-/// Makes the call on a queue that is main or not, and in lockstep or not.
+/// Makes the call on a queue that is main or not, and in lockstep or not; a look with an idle turn that is owed or not.
 fn act(
     alloc: Global,
     state: &mut QueueState<NoClaim>,
     main: bool,
     lockstep: bool,
     call: &Call,
-) -> Result<Answer, NoMemory>
+    idle: bool,
+) -> Result<Said, NoMemory>
     requires { state.old.setting ≡ record { main = main; lockstep = lockstep; senders = 3 } }
     ensures { state.new.setting ≡ state.old.setting }
 {
@@ -209,218 +182,121 @@ fn act(
         Call::Unbarrier { token } => remove_barrier(state, *token),
         Call::Remove(filter) => remove(state, filter),
         Call::Quit { safe, now } => quit(state, *safe, *now),
-        Call::Next { now } => Ok(next(state, *now)),
-        Call::Advance { now } if lockstep => Ok(moved(advance(state, *now)?, Reply::Advanced)),
-        Call::Halt { now } if main => Ok(moved(halt(state, *now), Reply::Halted)),
-        _ => Ok(SILENT),
+        Call::Next { now } => Ok(look(state, *now, idle)),
+        Call::Advance { now } if lockstep => advance(state, *now),
+        Call::Halt { now } if main => Ok(halt(state, *now)),
+        _ => Ok(Said::Over),
     }
 }
 
 /// Tries the example on a new queue, and on the plain one.
 fn agree(rt: &impl Abort, alloc: Global, example: &Example) -> Result<(), NoMemory> {
-    let (main, lockstep, rows) = *example;
+    let main = example.main;
+    let lockstep = example.lockstep;
     let mut state = QueueState::new(alloc, (), main, lockstep, 3)?;
     let mut blocked = false;
-    for row in rows {
-        let (ask, said) = *row;
+    for row in example.rows {
+        let (ask, wanted) = *row;
         let call = ask.call();
-        let wanted = said.reply();
-        let wakes = said.wakes();
         let plain = plain::answer(alloc, main, lockstep, state.entries(), &call)?;
-        let (reply, wake) = act(alloc, &mut state, main, lockstep, &call)?;
-        assert!(rt; plain == wanted && reply == wanted && wake == wakes);
+        let came = act(alloc, &mut state, main, lockstep, &call, ask.is_idling())?;
+        assert!(rt;
+            came == wanted && plain == wanted.reply(),
+            "said {came:?} and not {wanted:?}"
+        );
         if let [before @ .., last] = state.entries() {
             let woken = plain::wakes(alloc, blocked, before, last)?;
-            assert!(rt; reply.is_none() || woken == wakes);
+            assert!(rt; plain.is_none() || woken == wanted.wakes());
         }
         if let Call::Next { .. } = call {
-            blocked = reply.is_none();
+            blocked = matches!(came, Said::Waits(_));
         }
     }
+    let plain = plain::fates(alloc, state.entries())?;
+    assert!(rt; plain.as_slice() == example.fates);
     Ok(())
 }
 
-/// Tries the example on a new queue that is sealed behind each call.
+/// Tries the example on a new queue that is sealed behind each call. Its parts together have the same fates.
 fn agree_sealed(rt: &impl Abort, alloc: Global, example: &Example) -> Result<(), NoMemory> {
-    let (main, lockstep, rows) = *example;
+    let main = example.main;
+    let lockstep = example.lockstep;
     let mut state = QueueState::new(alloc, (), main, lockstep, 3)?;
-    for row in rows {
-        let (ask, said) = *row;
-        let (reply, wake) = act(alloc, &mut state, main, lockstep, &ask.call())?;
+    let mut parts = Vec::new(alloc);
+    for row in example.rows {
+        let (ask, wanted) = *row;
+        let came = act(
+            alloc,
+            &mut state,
+            main,
+            lockstep,
+            &ask.call(),
+            ask.is_idling(),
+        )?;
         let part = seal(&mut state)?;
-        let kept = part.entries.len() == usize::from(reply.is_some());
-        let right = reply == said.reply() && wake == said.wakes();
-        assert!(rt; right && kept && state.entries().is_empty());
+        let kept = part.entries.len() == usize::from(wanted.reply().is_some());
+        assert!(rt; came == wanted && kept && state.entries().is_empty());
+        parts.push(part)?;
     }
-    Ok(())
-}
-
-/// What the look answers, by name.
-#[tactic(auto, using(queue_state::proofs::Stays::looks_stays))]
-fn look(state: &mut QueueState<NoClaim>, now: u64, idle: bool) -> Look
-    requires { 1 < state.old.setting.senders }
-    ensures { state.new.setting ≡ state.old.setting }
-{
-    match state.next(LOOPER, now, idle) {
-        Nexted::Taken { number, .. } => Look::Taken(number),
-        Nexted::Idle => Look::Idle,
-        Nexted::Wait { until } => Look::Wait(until),
-        Nexted::End(list) => Look::End(list.len()),
-        Nexted::Over => Look::Over,
-    }
-}
-
-/// Whether a message of handler 0 is there.
-fn has_any(state: &QueueState<NoClaim>) -> bool {
-    state.has(&Filter {
-        handler: 0,
-        kind: Kind::All,
-        obj: None,
-    })
-}
-
-/// Takes the step on a queue in free time, and tells whether it went as the step says.
-fn goes(alloc: Global, state: &mut QueueState<NoClaim>, step: &Step) -> Result<bool, NoMemory>
-    requires { state.old.setting ≡ record { main = false; lockstep = false; senders = 3 } }
-    ensures { state.new.setting ≡ state.old.setting }
-{
-    match step {
-        Step::Make(ask) => {
-            act(alloc, state, false, false, &ask.call())?;
-            Ok(true)
-        }
-        Step::Look(now, wanted) => Ok(look(state, *now, false) == *wanted),
-        Step::Idling(now, wanted) => Ok(look(state, *now, true) == *wanted),
-        Step::Has(wanted) => Ok(has_any(state) == *wanted),
-    }
-}
-
-#[test]
-fn names_what_each_look_answers(rt: HostRuntime) -> Result<(), Fail> {
-    let alloc = rt.alloc();
-    let mut state = QueueState::new(alloc, (), false, false, 3)?;
-    for step in &rows::LOOKS {
-        let as_said = goes(alloc, &mut state, step)?;
-        assert!(rt; as_said);
-    }
-    Ok(())
-}
-
-/// Takes the step on a main queue in lockstep, and tells whether it went as the step says.
-fn goes_on(alloc: Global, state: &mut QueueState<NoClaim>, step: &Moving) -> Result<bool, NoMemory>
-    requires { state.old.setting ≡ record { main = true; lockstep = true; senders = 3 } }
-    ensures { state.new.setting ≡ state.old.setting }
-{
-    match step {
-        Moving::Make(ask) => {
-            act(alloc, state, true, true, &ask.call())?;
-            Ok(true)
-        }
-        Moving::Advance(now, wanted) => Ok(advance(state, *now)? == *wanted),
-        Moving::Halt(now, wanted) => Ok(halt(state, *now) == *wanted),
-    }
-}
-
-#[test]
-fn names_what_each_move_answers(rt: HostRuntime) -> Result<(), Fail> {
-    let alloc = rt.alloc();
-    let mut state = QueueState::new(alloc, (), true, true, 3)?;
-    for step in &rows::MOVES {
-        let as_said = goes_on(alloc, &mut state, step)?;
-        assert!(rt; as_said);
-    }
+    let found = fates(alloc, parts.as_slice())?;
+    assert!(rt; found.list.as_slice() == example.fates);
     Ok(())
 }
 
 #[test]
-fn replies_the_same_where_it_is_sealed(rt: HostRuntime) -> Result<(), Fail> {
+fn says_the_same_as_the_plain_queue_and_where_it_is_sealed(rt: HostRuntime) -> Result<(), Fail> {
     let alloc = rt.alloc();
     for example in &rows::EXAMPLES {
+        agree(&rt, alloc, example)?;
         agree_sealed(&rt, alloc, example)?;
     }
     Ok(())
 }
 
-/// A message, a barrier and a message behind it.
-fn fill(alloc: Global, state: &mut QueueState<NoClaim>) -> Result<(), NoMemory>
-    requires { 1 < state.old.setting.senders }
+/// Takes the rows on a queue in free time, and hands out what they record.
+fn part_of(
+    rt: &impl Abort,
+    alloc: Global,
+    state: &mut QueueState<NoClaim>,
+    rows: &[Row],
+) -> Result<Segment, NoMemory>
+    requires { state.old.setting ≡ record { main = false; lockstep = false; senders = 3 } }
     ensures { state.new.setting ≡ state.old.setting }
 {
-    post(alloc, state, &rows::message(1, 5))?;
-    post_barrier(alloc, state, 7)?;
-    post(alloc, state, &rows::message(2, 9))?;
-    Ok(())
-}
-
-/// Whether these items stand in the base.
-fn holds_three(items: &[Item]) -> bool {
-    let early = Item::Post {
-        number: 0,
-        post: rows::message(1, 5),
-    };
-    let barrier = Item::Barrier { token: 0, when: 7 };
-    let late = Item::Post {
-        number: 1,
-        post: rows::message(2, 9),
-    };
-    match items {
-        [first, second, third] => *first == early && *second == barrier && *third == late,
-        _ => false,
+    for row in rows {
+        let (ask, wanted) = *row;
+        let came = act(alloc, state, false, false, &ask.call(), ask.is_idling())?;
+        assert!(rt; came == wanted);
     }
+    seal(state)
 }
 
 /// Whether the base has these numbers, and none that quit.
-fn has_counts(base: &Base, length: u64, time: u64, accepted: u64, made: [u64; 2]) -> bool {
+fn has_counts(base: &Base, length: u64, time: u64, made: [u64; 3]) -> bool {
     base.length == length
         && base.time == time
-        && base.accepted == accepted
+        && base.accepted == 3
+        && base.barriers == 1
         && base.made.as_slice() == made.as_slice()
         && base.quit.is_none()
-}
-
-/// Takes both messages, with the removal of the barrier between: whether each came as it must.
-fn drain(state: &mut QueueState<NoClaim>) -> Result<bool, NoMemory>
-    requires { 1 < state.old.setting.senders }
-    ensures { state.new.setting ≡ state.old.setting }
-{
-    let (first, _) = next(state, 10);
-    let waited = waits(state, 10);
-    let (gone, wake) = remove_barrier(state, 0)?;
-    let (second, _) = next(state, 10);
-    let first = first == Some(Reply::Dispatched { number: 0 });
-    let second = second == Some(Reply::Dispatched { number: 1 });
-    Ok(first && waited && wake && second && gone == Some(Reply::Unbarriered))
-}
-
-#[test]
-fn seals_what_is_live(rt: HostRuntime) -> Result<(), Fail> {
-    let alloc = rt.alloc();
-    let mut state = QueueState::new(alloc, (), false, false, 2)?;
-    fill(alloc, &mut state)?;
-    let part = seal(&mut state)?;
-    let whole = part.base.length == 0 && part.entries.len() == 3;
-    let base = state.base();
-    let counts = has_counts(base, 3, 7, 2, [3, 0]) && base.barriers == 1;
-    let live = holds_three(base.items.as_slice());
-    assert!(rt; whole && counts && live);
-    Ok(())
 }
 
 #[test]
 fn goes_on_from_what_it_sealed(rt: HostRuntime) -> Result<(), Fail> {
     let alloc = rt.alloc();
-    let mut state = QueueState::new(alloc, (), false, false, 2)?;
-    fill(alloc, &mut state)?;
-    seal(&mut state)?;
-    let drained = drain(&mut state)?;
-    let part = seal(&mut state)?;
-    let rest = part.base.length == 3 && part.entries.len() == 3;
+    let mut state = QueueState::new(alloc, (), false, false, 3)?;
+    let first = part_of(&rt, alloc, &mut state, &rows::FILLED)?;
+    let live = plain::live_in_order(alloc, first.entries.as_slice())?;
+    assert!(rt; live.as_slice() == rows::LEFT.as_slice());
     let base = state.base();
-    let counts = has_counts(base, 6, 10, 2, [4, 2]) && base.items.is_empty();
-    assert!(rt; drained && rest && counts);
-    let dropped = quit_safely(&mut state, 10)?;
-    let (refused, _) = post(alloc, &mut state, &rows::message(1, 5))?;
-    assert!(rt; dropped == Some(0) && refused == Some(Reply::Refused { place: 6 }));
+    let counts = has_counts(base, 4, 5, [4, 0, 0]);
+    assert!(rt; counts && base.items.as_slice() == rows::LEFT.as_slice());
+    let rest = part_of(&rt, alloc, &mut state, &rows::EMPTIED)?;
+    let base = state.base();
+    let counts = has_counts(base, 8, 10, [5, 3, 0]);
+    assert!(rt; counts && base.items.is_empty());
+    let last = part_of(&rt, alloc, &mut state, &rows::QUIT)?;
+    assert!(rt; first.base.length == 0 && rest.base.length == 4 && last.base.length == 8);
     Ok(())
 }
 
@@ -433,8 +309,8 @@ fn pass_one<R: Recorder>(
     requires { 1 < state.old.setting.senders }
     ensures { state.new.setting ≡ state.old.setting }
 {
-    post(alloc, state, &rows::message(1, when))?;
-    next(state, when);
+    post(alloc, state, &Post { when, ..PLAIN })?;
+    look(state, when, false);
     Ok(())
 }
 
@@ -471,13 +347,26 @@ fn keeps_no_more_than_it_must(rt: HostRuntime) -> Result<(), Fail> {
     Ok(())
 }
 
-#[test]
-fn replies_as_the_plain_queue(rt: HostRuntime) -> Result<(), Fail> {
-    let alloc = rt.alloc();
-    for example in &rows::EXAMPLES {
-        agree(&rt, alloc, example)?;
-    }
-    Ok(())
+/// What a queue says that keeps no record: a post, a safe quit, and a post behind it, whose refusal names the place of the quit; and how
+/// many items it leaves.
+fn passes_unkept(alloc: Global) -> Result<([Said; 3], usize), NoMemory> {
+    let mut state: QueueState<NoClaim, Unkept> = QueueState::new(alloc, (), false, false, 2)?;
+    pass_one(alloc, &mut state, 1)?;
+    pass_one(alloc, &mut state, 2)?;
+    let accepted = post(alloc, &mut state, &Post { when: 5, ..PLAIN })?;
+    let quits = quit(&mut state, true, 9)?;
+    let refused = post(alloc, &mut state, &Post { when: 5, ..PLAIN })?;
+    let left = state.into_items();
+    Ok(([accepted, quits, refused], left.len()))
+}
+
+/// Whether a message of handler 0 is there.
+fn has_any(state: &QueueState<NoClaim>) -> bool {
+    state.has(&Filter {
+        handler: 0,
+        kind: Kind::All,
+        obj: None,
+    })
 }
 
 #[test]
@@ -485,31 +374,17 @@ fn tells_what_it_keeps(rt: HostRuntime) -> Result<(), Fail> {
     let alloc = rt.alloc();
     let mut state = QueueState::new(alloc, (), false, true, 3)?;
     assert!(rt; !has_any(&state) && state.time() == 0 && state.room() >= 2);
-    let (_, wake) = post(alloc, &mut state, &rows::message(1, 5))?;
-    assert!(rt; !wake && has_any(&state) && state.room() >= 3 && state.len() == 1);
+    post(alloc, &mut state, &Post { when: 5, ..PLAIN })?;
+    assert!(rt; has_any(&state) && state.room() >= 3 && state.len() == 1);
     advance(&mut state, 5)?;
     assert!(rt; state.time() == 5 && state.entries().len() == 2);
     let (part, left) = state.into_parts();
     assert!(rt; part.base.length == 0 && part.entries.len() == 2 && left.len() == 1);
-    Ok(())
-}
-
-/// What a queue answers that keeps no record: a post, a safe quit, and a post behind it, whose refusal names the place of the quit.
-fn passes_unkept(alloc: Global) -> Result<(Answer, Option<usize>, Answer, usize), NoMemory> {
-    let mut state: QueueState<NoClaim, Unkept> = QueueState::new(alloc, (), false, false, 2)?;
-    pass_one(alloc, &mut state, 1)?;
-    pass_one(alloc, &mut state, 2)?;
-    let accepted = post(alloc, &mut state, &rows::message(1, 5))?;
-    let dropped = quit_safely(&mut state, 9)?;
-    let refused = post(alloc, &mut state, &rows::message(2, 5))?;
-    let left = state.into_items();
-    Ok((accepted, dropped, refused, left.len()))
-}
-
-#[test]
-fn answers_without_a_record(rt: HostRuntime) -> Result<(), Fail> {
-    let (accepted, dropped, refused, left) = passes_unkept(rt.alloc())?;
-    assert!(rt; accepted == (Some(Reply::Accepted { number: 2 }), false) && dropped == Some(0));
-    assert!(rt; refused == (Some(Reply::Refused { place: 5 }), false) && left == 1);
+    let without = [
+        Said::Quiet(Reply::Accepted { number: 2 }),
+        Said::Quits(0),
+        Said::Quiet(Reply::Refused { place: 5 }),
+    ];
+    assert!(rt; passes_unkept(alloc)? == (without, 1), "without a record");
     Ok(())
 }

@@ -1,9 +1,10 @@
-// The worked examples: what is asked of a queue, the reply, or none where no entry is left, and whether it wakes.
+// The worked examples: what is asked of a queue, and what is said to it.
 
-use loop_model::{Call, Filter, Kind, Post, Reply};
+use loop_model::{Call, Fate, Filter, Item, Kind, Post, Reply};
 
 /// What is asked of a queue: a message by its what or its callback, and its time; else by the kind of its messages, its token, or
-/// its moment. Each message is for handler 0.
+/// its moment. Each message is for handler 0. `Idling` is a look where an idle turn is owed. `WithObject` is a message or a callback
+/// for 10 with this object, and `RemoveObject` removes those with this one.
 #[derive(Clone, Copy)]
 pub(crate) enum Ask {
     Post(u32, u64),
@@ -15,35 +16,55 @@ pub(crate) enum Ask {
     Quit(u64),
     QuitSafely(u64),
     Next(u64),
+    Idling(u64),
     Advance(u64),
     Halt(u64),
+    WithObject(u32, Option<u64>, u64),
+    RemoveObject(Kind, u64),
 }
 
-/// The reply, and whether the call wakes; Nothing where no entry is left.
-#[derive(Clone, Copy)]
+/// The reply, and whether the call wakes. A quit tells how many messages it drops, and a disposal how many items are left. Where no
+/// entry is recorded: why a look takes nothing, the time that was reached before, or the number of the message that is due.
+#[derive(Clone, Copy, Debug, PartialEq, Eq)]
 pub(crate) enum Said {
-    Nothing,
     Quiet(Reply),
     Wakes(Reply),
+    Quits(usize),
+    Ends(usize),
+    Idle,
+    Waits(Option<u64>),
+    Over,
+    Reached(u64),
+    NotDrained(u64),
 }
 
 /// What is asked, and what is said to it.
 pub(crate) type Row = (Ask, Said);
 
 impl Ask {
+    /// Whether it is a look where an idle turn is owed.
+    pub(crate) fn is_idling(self) -> bool {
+        matches!(self, Ask::Idling(_))
+    }
+
     pub(crate) fn call(self) -> Call {
         match self {
-            Ask::Post(what, when) => Call::Post(message(what, when)),
-            Ask::Asynchronous(what, when) => {
-                let mut post = message(what, when);
-                post.asynchronous = true;
-                Call::Post(post)
-            }
-            Ask::Callback(callback, when) => {
-                let mut post = message(0, when);
-                post.callback = Some(callback);
-                Call::Post(post)
-            }
+            Ask::Post(what, when) => Call::Post(Post {
+                what,
+                when,
+                ..PLAIN
+            }),
+            Ask::Asynchronous(what, when) => Call::Post(Post {
+                what,
+                when,
+                asynchronous: true,
+                ..PLAIN
+            }),
+            Ask::Callback(callback, when) => Call::Post(Post {
+                callback: Some(callback),
+                when,
+                ..PLAIN
+            }),
             Ask::Remove(kind) => Call::Remove(Filter {
                 handler: 0,
                 kind,
@@ -54,8 +75,21 @@ impl Ask {
             Ask::Quit(now) => Call::Quit { safe: false, now },
             Ask::QuitSafely(now) => Call::Quit { safe: true, now },
             Ask::Next(now) => Call::Next { now },
+            Ask::Idling(now) => Call::Next { now },
             Ask::Advance(now) => Call::Advance { now },
             Ask::Halt(now) => Call::Halt { now },
+            Ask::WithObject(what, callback, obj) => Call::Post(Post {
+                what,
+                callback,
+                obj: Some(obj),
+                when: 10,
+                ..PLAIN
+            }),
+            Ask::RemoveObject(kind, obj) => Call::Remove(Filter {
+                handler: 0,
+                kind,
+                obj: Some(obj),
+            }),
         }
     }
 }
@@ -63,41 +97,43 @@ impl Ask {
 impl Said {
     pub(crate) fn reply(self) -> Option<Reply> {
         match self {
-            Said::Nothing => None,
             Said::Quiet(reply) => Some(reply),
             Said::Wakes(reply) => Some(reply),
+            Said::Quits(_) => Some(Reply::QuitDone),
+            Said::Ends(_) => Some(Reply::Disposed),
+            _ => None,
         }
     }
 
     pub(crate) fn wakes(self) -> bool {
-        matches!(self, Said::Wakes(_))
+        matches!(self, Said::Wakes(_) | Said::Quits(_))
     }
 }
 
-pub(crate) fn message(what: u32, when: u64) -> Post {
-    Post {
-        handler: 0,
-        what,
-        arg: 0,
-        obj: None,
-        callback: None,
-        when,
-        asynchronous: false,
-        slot: None,
-    }
-}
+/// A message for handler 0 without anything.
+pub(crate) const PLAIN: Post = Post {
+    handler: 0,
+    what: 0,
+    arg: 0,
+    obj: None,
+    callback: None,
+    when: 0,
+    asynchronous: false,
+    slot: None,
+};
 
-const IN_ORDER: [Row; 10] = [
+const IN_ORDER: [Row; 11] = [
     (Ask::Advance(10), Said::Quiet(Reply::Advanced)),
     (Ask::Post(7, 15), Said::Quiet(Reply::Accepted { number: 0 })),
     (Ask::Post(8, 10), Said::Quiet(Reply::Accepted { number: 1 })),
     (Ask::Next(10), Said::Quiet(Reply::Dispatched { number: 1 })),
-    (Ask::Next(10), Said::Nothing),
+    (Ask::Next(10), Said::Waits(Some(15))),
     (Ask::Advance(15), Said::Quiet(Reply::Advanced)),
     (Ask::Next(15), Said::Quiet(Reply::Dispatched { number: 0 })),
+    (Ask::Next(15), Said::Waits(None)),
     (Ask::Advance(20), Said::Quiet(Reply::Advanced)),
     (Ask::Halt(20), Said::Quiet(Reply::Halted)),
-    (Ask::Next(20), Said::Nothing),
+    (Ask::Next(20), Said::Over),
 ];
 
 const AT_THE_FRONT: [Row; 13] = [
@@ -105,7 +141,7 @@ const AT_THE_FRONT: [Row; 13] = [
     (Ask::Post(2, 0), Said::Quiet(Reply::Accepted { number: 1 })),
     (Ask::Next(0), Said::Quiet(Reply::Dispatched { number: 1 })),
     (Ask::Next(0), Said::Quiet(Reply::Dispatched { number: 0 })),
-    (Ask::Next(0), Said::Nothing),
+    (Ask::Next(0), Said::Waits(None)),
     (Ask::Advance(10), Said::Quiet(Reply::Advanced)),
     (Ask::Post(1, 10), Said::Wakes(Reply::Accepted { number: 2 })),
     (Ask::Post(2, 0), Said::Wakes(Reply::Accepted { number: 3 })),
@@ -121,7 +157,7 @@ const EQUAL_TIMES: [Row; 10] = [
     (Ask::Post(1, 15), Said::Quiet(Reply::Accepted { number: 0 })),
     (Ask::Post(2, 15), Said::Quiet(Reply::Accepted { number: 1 })),
     (Ask::Post(3, 15), Said::Quiet(Reply::Accepted { number: 2 })),
-    (Ask::Next(10), Said::Nothing),
+    (Ask::Next(10), Said::Waits(Some(15))),
     (Ask::Advance(15), Said::Quiet(Reply::Advanced)),
     (Ask::Next(15), Said::Quiet(Reply::Dispatched { number: 0 })),
     (Ask::Next(15), Said::Quiet(Reply::Dispatched { number: 1 })),
@@ -129,7 +165,7 @@ const EQUAL_TIMES: [Row; 10] = [
     (Ask::Halt(15), Said::Quiet(Reply::Halted)),
 ];
 
-const BEHIND_A_BARRIER: [Row; 12] = [
+const BEHIND_A_BARRIER: [Row; 13] = [
     (Ask::Advance(10), Said::Quiet(Reply::Advanced)),
     (Ask::Post(3, 10), Said::Quiet(Reply::Accepted { number: 0 })),
     (Ask::Barrier(10), Said::Quiet(Reply::Token { token: 0 })),
@@ -140,20 +176,25 @@ const BEHIND_A_BARRIER: [Row; 12] = [
     ),
     (Ask::Next(10), Said::Quiet(Reply::Dispatched { number: 0 })),
     (Ask::Next(10), Said::Quiet(Reply::Dispatched { number: 2 })),
-    (Ask::Next(10), Said::Nothing),
+    (Ask::Next(10), Said::Waits(None)),
     (Ask::Advance(12), Said::Quiet(Reply::Advanced)),
     (Ask::Unbarrier(0), Said::Wakes(Reply::Unbarriered)),
+    (Ask::Unbarrier(0), Said::Quiet(Reply::NotPosted)),
     (Ask::Next(12), Said::Quiet(Reply::Dispatched { number: 1 })),
     (Ask::Halt(12), Said::Quiet(Reply::Halted)),
 ];
 
-const REMOVALS: [Row; 12] = [
+const REMOVALS: [Row; 14] = [
     (
         Ask::Callback(9, 10),
         Said::Quiet(Reply::Accepted { number: 0 }),
     ),
     (Ask::Post(0, 10), Said::Quiet(Reply::Accepted { number: 1 })),
     (Ask::Post(1, 10), Said::Quiet(Reply::Accepted { number: 2 })),
+    (
+        Ask::Remove(Kind::What(7)),
+        Said::Quiet(Reply::Removed { count: 0 }),
+    ),
     (
         Ask::Remove(Kind::What(0)),
         Said::Quiet(Reply::Removed { count: 2 }),
@@ -173,7 +214,11 @@ const REMOVALS: [Row; 12] = [
         Ask::Remove(Kind::All),
         Said::Quiet(Reply::Removed { count: 1 }),
     ),
-    (Ask::Next(10), Said::Nothing),
+    (Ask::Next(10), Said::Waits(None)),
+    (
+        Ask::Remove(Kind::All),
+        Said::Quiet(Reply::Removed { count: 0 }),
+    ),
     (Ask::Halt(10), Said::Quiet(Reply::Halted)),
 ];
 
@@ -184,43 +229,43 @@ const SAFE_QUIT: [Row; 10] = [
     (Ask::Advance(9), Said::Quiet(Reply::Advanced)),
     (Ask::Next(9), Said::Quiet(Reply::Dispatched { number: 0 })),
     (Ask::Advance(10), Said::Quiet(Reply::Advanced)),
-    (Ask::QuitSafely(10), Said::Wakes(Reply::QuitDone)),
+    (Ask::QuitSafely(10), Said::Quits(1)),
     (Ask::Next(10), Said::Quiet(Reply::Dispatched { number: 1 })),
-    (Ask::Next(10), Said::Quiet(Reply::Disposed)),
-    (Ask::Next(10), Said::Nothing),
+    (Ask::Next(10), Said::Ends(0)),
+    (Ask::Next(10), Said::Over),
 ];
 
 const STRANDED: [Row; 5] = [
     (Ask::Advance(10), Said::Quiet(Reply::Advanced)),
     (Ask::Barrier(10), Said::Quiet(Reply::Token { token: 0 })),
     (Ask::Post(1, 10), Said::Quiet(Reply::Accepted { number: 0 })),
-    (Ask::QuitSafely(10), Said::Wakes(Reply::QuitDone)),
-    (Ask::Next(10), Said::Quiet(Reply::Disposed)),
+    (Ask::QuitSafely(10), Said::Quits(0)),
+    (Ask::Next(10), Said::Ends(2)),
 ];
 
 const FREED_BEFORE_DISPOSAL: [Row; 7] = [
     (Ask::Advance(10), Said::Quiet(Reply::Advanced)),
     (Ask::Barrier(10), Said::Quiet(Reply::Token { token: 0 })),
     (Ask::Post(1, 10), Said::Quiet(Reply::Accepted { number: 0 })),
-    (Ask::QuitSafely(10), Said::Wakes(Reply::QuitDone)),
+    (Ask::QuitSafely(10), Said::Quits(0)),
     (Ask::Unbarrier(0), Said::Quiet(Reply::Unbarriered)),
     (Ask::Next(10), Said::Quiet(Reply::Dispatched { number: 0 })),
-    (Ask::Next(10), Said::Quiet(Reply::Disposed)),
+    (Ask::Next(10), Said::Ends(0)),
 ];
 
 const QUITS_ONCE: [Row; 9] = [
     (Ask::Advance(10), Said::Quiet(Reply::Advanced)),
     (Ask::Post(5, 10), Said::Quiet(Reply::Accepted { number: 0 })),
-    (Ask::Quit(10), Said::Wakes(Reply::QuitDone)),
+    (Ask::Quit(10), Said::Quits(1)),
     (Ask::Quit(10), Said::Quiet(Reply::AlreadyQuit { place: 2 })),
     (Ask::Post(5, 10), Said::Quiet(Reply::Refused { place: 2 })),
-    (Ask::Next(10), Said::Quiet(Reply::Disposed)),
+    (Ask::Next(10), Said::Ends(0)),
     (Ask::Barrier(10), Said::Quiet(Reply::Token { token: 0 })),
     (
         Ask::Remove(Kind::All),
         Said::Quiet(Reply::Removed { count: 0 }),
     ),
-    (Ask::Next(10), Said::Nothing),
+    (Ask::Next(10), Said::Over),
 ];
 
 const MAIN_MAY_NOT_QUIT: [Row; 5] = [
@@ -231,8 +276,8 @@ const MAIN_MAY_NOT_QUIT: [Row; 5] = [
     (Ask::Halt(12), Said::Quiet(Reply::Halted)),
 ];
 
-const WAKES: [Row; 7] = [
-    (Ask::Next(0), Said::Nothing),
+const WAKES: [Row; 12] = [
+    (Ask::Next(0), Said::Waits(None)),
     (Ask::Barrier(0), Said::Quiet(Reply::Token { token: 0 })),
     (Ask::Post(1, 5), Said::Quiet(Reply::Accepted { number: 0 })),
     (
@@ -245,99 +290,281 @@ const WAKES: [Row; 7] = [
     ),
     (Ask::Unbarrier(0), Said::Wakes(Reply::Unbarriered)),
     (Ask::Unbarrier(0), Said::Quiet(Reply::NotPosted)),
+    (Ask::Post(4, 5), Said::Quiet(Reply::Accepted { number: 3 })),
+    (Ask::Post(5, 4), Said::Wakes(Reply::Accepted { number: 4 })),
+    (
+        Ask::Remove(Kind::All),
+        Said::Quiet(Reply::Removed { count: 5 }),
+    ),
+    (Ask::QuitSafely(0), Said::Quits(0)),
+    (
+        Ask::QuitSafely(0),
+        Said::Quiet(Reply::AlreadyQuit { place: 9 }),
+    ),
 ];
 
-/// Whether a queue is main, and in lockstep, and the table that is tried on it.
-pub(crate) type Example = (bool, bool, &'static [Row]);
-
-pub(crate) const EXAMPLES: [Example; 11] = [
-    (true, true, &IN_ORDER),
-    (true, true, &AT_THE_FRONT),
-    (true, true, &EQUAL_TIMES),
-    (true, true, &BEHIND_A_BARRIER),
-    (true, true, &REMOVALS),
-    (false, true, &SAFE_QUIT),
-    (false, true, &STRANDED),
-    (false, true, &FREED_BEFORE_DISPOSAL),
-    (false, true, &QUITS_ONCE),
-    (true, true, &MAIN_MAY_NOT_QUIT),
-    (false, false, &WAKES),
+/// One message passes a barrier at which the other waits, up to the halt.
+const HELD_BACK: [Row; 7] = [
+    (Ask::Advance(10), Said::Quiet(Reply::Advanced)),
+    (Ask::Post(1, 10), Said::Quiet(Reply::Accepted { number: 0 })),
+    (Ask::Barrier(10), Said::Quiet(Reply::Token { token: 0 })),
+    (Ask::Post(2, 10), Said::Quiet(Reply::Accepted { number: 1 })),
+    (Ask::Next(10), Said::Quiet(Reply::Dispatched { number: 0 })),
+    (Ask::Next(10), Said::Waits(None)),
+    (Ask::Halt(10), Said::Quiet(Reply::Halted)),
 ];
 
-/// What a look answers, by name: the number that is taken, until when it waits, how many items are left at the end.
-#[derive(Clone, Copy, Debug, PartialEq, Eq)]
-pub(crate) enum Look {
-    Taken(u64),
-    Idle,
-    Wait(Option<u64>),
-    End(usize),
-    Over,
-}
-
-/// A call that is made, a look at a moment with what it answers, the same where an idle turn is owed, or whether a message is there.
-#[derive(Clone, Copy)]
-pub(crate) enum Step {
-    Make(Ask),
-    Look(u64, Look),
-    Idling(u64, Look),
-    Has(bool),
-}
-
-pub(crate) const LOOKS: [Step; 19] = [
-    Step::Idling(0, Look::Idle),
-    Step::Look(0, Look::Wait(None)),
-    Step::Has(false),
-    Step::Make(Ask::Post(1, 5)),
-    Step::Has(true),
-    Step::Idling(4, Look::Idle),
-    Step::Look(4, Look::Wait(Some(5))),
-    Step::Idling(5, Look::Taken(0)),
-    Step::Make(Ask::Barrier(5)),
-    Step::Make(Ask::Post(2, 5)),
+/// What a look answers, with an idle turn owed and without.
+const LOOKS: [Row; 16] = [
+    (Ask::Idling(0), Said::Idle),
+    (Ask::Next(0), Said::Waits(None)),
+    (Ask::Post(1, 5), Said::Wakes(Reply::Accepted { number: 0 })),
+    (Ask::Idling(4), Said::Idle),
+    (Ask::Next(4), Said::Waits(Some(5))),
+    (Ask::Idling(5), Said::Quiet(Reply::Dispatched { number: 0 })),
+    (Ask::Barrier(5), Said::Quiet(Reply::Token { token: 0 })),
+    (Ask::Post(2, 5), Said::Quiet(Reply::Accepted { number: 1 })),
     // the head is due and a barrier, so no idle turn
-    Step::Idling(6, Look::Wait(None)),
-    Step::Make(Ask::Asynchronous(3, 9)),
-    Step::Idling(6, Look::Wait(Some(9))),
-    Step::Idling(9, Look::Taken(2)),
-    Step::Make(Ask::QuitSafely(9)),
-    Step::Has(true),
-    Step::Idling(9, Look::End(2)),
-    Step::Has(false),
-    Step::Idling(9, Look::Over),
+    (Ask::Idling(6), Said::Waits(None)),
+    (
+        Ask::Asynchronous(3, 9),
+        Said::Wakes(Reply::Accepted { number: 2 }),
+    ),
+    (Ask::Idling(6), Said::Waits(Some(9))),
+    (Ask::Idling(9), Said::Quiet(Reply::Dispatched { number: 2 })),
+    (Ask::QuitSafely(9), Said::Quits(0)),
+    (Ask::Idling(9), Said::Ends(2)),
+    (Ask::Idling(9), Said::Over),
+    (
+        Ask::Remove(Kind::All),
+        Said::Quiet(Reply::Removed { count: 0 }),
+    ),
 ];
 
-/// What an advance or a halt answers, by name: the time that was reached before, or the number of the message that is due.
-#[derive(Clone, Copy, Debug, PartialEq, Eq)]
-pub(crate) enum Move {
-    Done,
-    Over,
-    Reached(u64),
-    NotDrained(u64),
+/// What an advance and a halt answer: the time is looked at before what is due.
+const MOVES: [Row; 15] = [
+    (Ask::Advance(0), Said::Reached(0)),
+    (Ask::Post(1, 5), Said::Quiet(Reply::Accepted { number: 0 })),
+    (Ask::Advance(5), Said::Quiet(Reply::Advanced)),
+    (Ask::Advance(5), Said::Reached(5)),
+    (Ask::Advance(4), Said::Reached(5)),
+    (Ask::Post(2, 0), Said::Quiet(Reply::Accepted { number: 1 })),
+    (Ask::Advance(6), Said::NotDrained(1)),
+    (Ask::Halt(5), Said::NotDrained(1)),
+    (Ask::Next(5), Said::Quiet(Reply::Dispatched { number: 1 })),
+    (Ask::Advance(6), Said::NotDrained(0)),
+    (Ask::Next(5), Said::Quiet(Reply::Dispatched { number: 0 })),
+    (Ask::Post(3, 7), Said::Quiet(Reply::Accepted { number: 2 })),
+    (Ask::Halt(6), Said::Quiet(Reply::Halted)),
+    (Ask::Halt(7), Said::Over),
+    (Ask::Advance(7), Said::Over),
+];
+
+/// Removals that name an object spare what has another one or none.
+const OBJECTS: [Row; 11] = [
+    (
+        Ask::WithObject(0, Some(9), 7),
+        Said::Quiet(Reply::Accepted { number: 0 }),
+    ),
+    (
+        Ask::WithObject(1, None, 7),
+        Said::Quiet(Reply::Accepted { number: 1 }),
+    ),
+    (
+        Ask::WithObject(1, None, 8),
+        Said::Quiet(Reply::Accepted { number: 2 }),
+    ),
+    (Ask::Post(1, 10), Said::Quiet(Reply::Accepted { number: 3 })),
+    (
+        Ask::Callback(9, 11),
+        Said::Quiet(Reply::Accepted { number: 4 }),
+    ),
+    (
+        Ask::RemoveObject(Kind::Callback(9), 7),
+        Said::Quiet(Reply::Removed { count: 1 }),
+    ),
+    (
+        Ask::RemoveObject(Kind::What(1), 8),
+        Said::Quiet(Reply::Removed { count: 1 }),
+    ),
+    (
+        Ask::RemoveObject(Kind::All, 7),
+        Said::Quiet(Reply::Removed { count: 1 }),
+    ),
+    (Ask::Advance(10), Said::Quiet(Reply::Advanced)),
+    (Ask::Next(10), Said::Quiet(Reply::Dispatched { number: 3 })),
+    (Ask::QuitSafely(10), Said::Quits(1)),
+];
+
+/// A queue that is main or not, and in lockstep or not; what is asked of it, and what became of its posts.
+pub(crate) struct Example {
+    pub(crate) main: bool,
+    pub(crate) lockstep: bool,
+    pub(crate) rows: &'static [Row],
+    pub(crate) fates: &'static [Fate],
 }
 
-/// A call that is made, or an advance or a halt at a moment with what it answers.
-#[derive(Clone, Copy)]
-pub(crate) enum Moving {
-    Make(Ask),
-    Advance(u64, Move),
-    Halt(u64, Move),
-}
+pub(crate) const EXAMPLES: [Example; 15] = [
+    Example {
+        main: true,
+        lockstep: true,
+        rows: &IN_ORDER,
+        fates: &[Fate::Dispatched, Fate::Dispatched],
+    },
+    Example {
+        main: true,
+        lockstep: true,
+        rows: &AT_THE_FRONT,
+        fates: &[
+            Fate::Dispatched,
+            Fate::Dispatched,
+            Fate::Dispatched,
+            Fate::Dispatched,
+            Fate::Dispatched,
+        ],
+    },
+    Example {
+        main: true,
+        lockstep: true,
+        rows: &EQUAL_TIMES,
+        fates: &[Fate::Dispatched, Fate::Dispatched, Fate::Dispatched],
+    },
+    Example {
+        main: true,
+        lockstep: true,
+        rows: &BEHIND_A_BARRIER,
+        fates: &[Fate::Dispatched, Fate::Dispatched, Fate::Dispatched],
+    },
+    Example {
+        main: true,
+        lockstep: true,
+        rows: &HELD_BACK,
+        fates: &[Fate::Dispatched, Fate::Queued],
+    },
+    Example {
+        main: true,
+        lockstep: true,
+        rows: &REMOVALS,
+        fates: &[
+            Fate::Removed,
+            Fate::Removed,
+            Fate::Dispatched,
+            Fate::Removed,
+            Fate::Removed,
+        ],
+    },
+    Example {
+        main: false,
+        lockstep: true,
+        rows: &OBJECTS,
+        fates: &[
+            Fate::Removed,
+            Fate::Removed,
+            Fate::Removed,
+            Fate::Dispatched,
+            Fate::Dropped,
+        ],
+    },
+    Example {
+        main: false,
+        lockstep: true,
+        rows: &SAFE_QUIT,
+        fates: &[Fate::Dispatched, Fate::Dispatched, Fate::Dropped],
+    },
+    Example {
+        main: false,
+        lockstep: true,
+        rows: &STRANDED,
+        fates: &[Fate::Stranded],
+    },
+    Example {
+        main: false,
+        lockstep: true,
+        rows: &FREED_BEFORE_DISPOSAL,
+        fates: &[Fate::Dispatched],
+    },
+    Example {
+        main: false,
+        lockstep: true,
+        rows: &QUITS_ONCE,
+        fates: &[Fate::Dropped],
+    },
+    Example {
+        main: true,
+        lockstep: true,
+        rows: &MAIN_MAY_NOT_QUIT,
+        fates: &[Fate::Queued],
+    },
+    Example {
+        main: false,
+        lockstep: false,
+        rows: &WAKES,
+        fates: &[
+            Fate::Removed,
+            Fate::Removed,
+            Fate::Removed,
+            Fate::Removed,
+            Fate::Removed,
+        ],
+    },
+    Example {
+        main: false,
+        lockstep: false,
+        rows: &LOOKS,
+        fates: &[Fate::Dispatched, Fate::Stranded, Fate::Dispatched],
+    },
+    Example {
+        main: true,
+        lockstep: true,
+        rows: &MOVES,
+        fates: &[Fate::Dispatched, Fate::Dispatched, Fate::Queued],
+    },
+];
 
-pub(crate) const MOVES: [Moving; 15] = [
-    Moving::Advance(0, Move::Reached(0)),
-    Moving::Make(Ask::Post(1, 5)),
-    Moving::Advance(5, Move::Done),
-    // the time is looked at before what is due
-    Moving::Advance(5, Move::Reached(5)),
-    Moving::Advance(4, Move::Reached(5)),
-    Moving::Make(Ask::Post(2, 0)),
-    Moving::Advance(6, Move::NotDrained(1)),
-    Moving::Halt(5, Move::NotDrained(1)),
-    Moving::Make(Ask::Next(5)),
-    Moving::Advance(6, Move::NotDrained(0)),
-    Moving::Make(Ask::Next(5)),
-    Moving::Make(Ask::Post(3, 7)),
-    Moving::Halt(6, Move::Done),
-    Moving::Halt(7, Move::Over),
-    Moving::Advance(7, Move::Over),
+/// Two messages with a barrier between them, and one that was put at the front.
+pub(crate) const FILLED: [Row; 4] = [
+    (Ask::Post(1, 7), Said::Quiet(Reply::Accepted { number: 0 })),
+    (Ask::Barrier(5), Said::Quiet(Reply::Token { token: 0 })),
+    (Ask::Post(2, 0), Said::Quiet(Reply::Accepted { number: 1 })),
+    (Ask::Post(3, 5), Said::Quiet(Reply::Accepted { number: 2 })),
+];
+
+/// What they leave.
+pub(crate) const LEFT: [Item; 4] = [
+    Item::Post {
+        number: 1,
+        post: Post { what: 2, ..PLAIN },
+    },
+    Item::Barrier { token: 0, when: 5 },
+    Item::Post {
+        number: 2,
+        post: Post {
+            what: 3,
+            when: 5,
+            ..PLAIN
+        },
+    },
+    Item::Post {
+        number: 0,
+        post: Post {
+            what: 1,
+            when: 7,
+            ..PLAIN
+        },
+    },
+];
+
+/// All three are taken, with the removal of the barrier between.
+pub(crate) const EMPTIED: [Row; 5] = [
+    (Ask::Next(10), Said::Quiet(Reply::Dispatched { number: 1 })),
+    (Ask::Next(10), Said::Waits(None)),
+    (Ask::Unbarrier(0), Said::Wakes(Reply::Unbarriered)),
+    (Ask::Next(10), Said::Quiet(Reply::Dispatched { number: 2 })),
+    (Ask::Next(10), Said::Quiet(Reply::Dispatched { number: 0 })),
+];
+
+/// A quit, and a post behind it.
+pub(crate) const QUIT: [Row; 2] = [
+    (Ask::QuitSafely(10), Said::Quits(0)),
+    (Ask::Post(1, 5), Said::Quiet(Reply::Refused { place: 8 })),
 ];
