@@ -177,13 +177,6 @@ fn assert_row(rt: &impl Abort, row: &Row) {
     }
 }
 
-#[test]
-fn animators_tell_their_frames(rt: HostRuntime) {
-    for row in &ROWS {
-        assert_row(&rt, row);
-    }
-}
-
 /// Plans that are out of their limits by one: a way too long, none, an end too late, keys that are none, one, too many, or don't rise
 /// from 0 to 1000, and a value too great.
 const UNFIT: [(u64, u64, u32, &[(u32, u32)]); 12] = [
@@ -225,7 +218,10 @@ const UNFIT: [(u64, u64, u32, &[(u32, u32)]); 12] = [
 ];
 
 #[test]
-fn plans_out_of_their_limits_do_not_fit(rt: HostRuntime) {
+fn animators_tell_their_frames_and_plans_out_of_their_limits_do_not_fit(rt: HostRuntime) {
+    for row in &ROWS {
+        assert_row(&rt, row);
+    }
     for (delay, duration, repeats, keys) in UNFIT {
         let row = Row {
             delay,

@@ -112,40 +112,36 @@ const BAD: [(&[u8], u64); 7] = [
     ),
 ];
 
-fn has_marks(rt: &impl Abort, alloc: Global, text: &[u8], expected: &[Mark]) -> Result<(), Fail> {
+/// Reports with their marks.
+const MARKS: [(&[u8], &[Mark]); 3] = [(MOVES, &MOVES_MARKS), (TWO, &TWO_MARKS), (NOTHING, &[])];
+
+/// The trace of a run in which nothing happens.
+const EMPTY: &[u8] =
+    b"[{\"args\":{\"name\":\"dashboard\"},\"name\":\"process_name\",\"ph\":\"M\",\"pid\":1}]\n";
+
+fn has_marks(rt: &impl Abort, alloc: Global, text: &[u8], wanted: &[Mark]) -> Result<(), Fail> {
     let ParsedReport::Ok(report) = parse_report(alloc, text) else {
         return Err("no report".into());
     };
     let found = marks(alloc, &report).ok().ok_or("no memory")?;
-    assert_eq!(rt; found.as_slice(), expected);
+    assert_eq!(rt; found.as_slice(), wanted);
     Ok(())
 }
 
 #[test]
-fn reports_have_their_marks(rt: HostRuntime) -> Result<(), Fail> {
-    has_marks(&rt, rt.alloc(), MOVES, &MOVES_MARKS)?;
-    has_marks(&rt, rt.alloc(), TWO, &TWO_MARKS)?;
-    has_marks(&rt, rt.alloc(), NOTHING, &[])
-}
-
-#[test]
-fn the_least_bad_line_is_named(rt: HostRuntime) -> Result<(), Fail> {
-    for (text, expected) in BAD {
+fn reports_have_their_marks_and_other_texts_a_bad_line(rt: HostRuntime) -> Result<(), Fail> {
+    for (text, wanted) in MARKS {
+        has_marks(&rt, rt.alloc(), text, wanted)?;
+    }
+    for (text, wanted) in BAD {
         let Picture::Bad { line } = picture_of(rt.alloc(), WHOLE, b"", text) else {
             return Err("a picture".into());
         };
-        assert_eq!(rt; line, expected);
+        assert_eq!(rt; line, wanted);
     }
-    Ok(())
-}
-
-#[test]
-fn an_empty_run_has_a_trace(rt: HostRuntime) -> Result<(), Fail> {
     let Picture::Text(text) = picture_of(rt.alloc(), Form::Perfetto, b"", NOTHING) else {
         return Err("no trace".into());
     };
-    let expected: &[u8] =
-        b"[{\"args\":{\"name\":\"dashboard\"},\"name\":\"process_name\",\"ph\":\"M\",\"pid\":1}]\n";
-    assert_eq!(rt; text.as_slice(), expected);
+    assert_eq!(rt; text.as_slice(), EMPTY);
     Ok(())
 }

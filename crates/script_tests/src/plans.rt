@@ -91,103 +91,75 @@ const BAD: [(&[u8], u64, Cause); 22] = [
     (b"animate 1\nperiod 01000000\nend\n", 2, Cause::Form),
 ];
 
-/// The first entry of each run with a frame, and the last one, which is of the commit phase.
-fn ends(time: u64) -> Option<(FrameEntry, FrameEntry)> {
-    let first = Callback {
-        number: 0,
-        phase: 1,
-        due: 0,
-        id: 0,
-        token: None,
+/// The first entry of each run with a frame.
+const FIRST: FrameEntry = FrameEntry::Posted(Callback {
+    number: 0,
+    phase: 1,
+    due: 0,
+    id: 0,
+    token: None,
+});
+
+/// Texts with what is written of them, how many entries their frames make, and the time of the last one, which is of the commit phase.
+const RUN: [(&[u8], &[u8], usize, Option<u64>); 3] = [
+    (BOTH, TOLD, 49, Some(116_666_669)),
+    (
+        b"animate 1\nperiod 1000000\ncountdown 0 10\nend\n",
+        b"values 1\n1000000 0 finished\nend\n",
+        7,
+        Some(1_000_000),
+    ),
+    (
+        b"animate 1\nperiod 1000000\nend\n",
+        b"values 1\nend\n",
+        0,
+        None,
+    ),
+];
+
+/// Whether the entries are so many, of which the first is that of each run, and the last of this time.
+fn are_of(entries: &[FrameEntry], count: usize, time: Option<u64>) -> bool {
+    let ends = match (entries, time) {
+        ([first, .., last], Some(time)) => {
+            let commit = FrameEntry::Take {
+                phase: 3,
+                now: time,
+                time,
+            };
+            *first == FIRST && *last == commit
+        }
+        (_, Some(_)) => false,
+        (_, None) => true,
     };
-    let last = FrameEntry::Take {
-        phase: 3,
-        now: time,
-        time,
-    };
-    Some((FrameEntry::Posted(first), last))
+    ends && entries.len() == count
 }
 
-fn ends_of(entries: &[FrameEntry]) -> Option<(FrameEntry, FrameEntry)> {
-    match entries {
-        [first, .., last] => Some((*first, *last)),
-        _ => None,
-    }
-}
-
-/// A text and what is written of it, how many entries its frames make, and the first and the last of them.
 fn assert_runs(
     rt: &impl Abort,
     alloc: Global,
     text: &[u8],
     told: &[u8],
-    frames: usize,
-    ends: Option<(FrameEntry, FrameEntry)>,
+    count: usize,
+    time: Option<u64>,
 ) {
-    match parse_values(alloc, text) {
-        ParsedValues::Ok(values) => match run_values(alloc, &values) {
-            ValuesRan::Ok {
-                text,
-                frames: record,
-            } => {
-                assert!(rt; text.as_slice() == told);
-                assert_eq!(rt; record.entries.len(), frames);
-                assert!(rt; ends_of(record.entries.as_slice()) == ends);
-            }
-            ValuesRan::NoMemory => panic!(rt; "no memory"),
-        },
-        ParsedValues::Bad { .. } => panic!(rt; "bad"),
-        ParsedValues::NoMemory => panic!(rt; "no memory"),
+    let ParsedValues::Ok(values) = parse_values(alloc, text) else {
+        panic!(rt; "not read")
+    };
+    let ValuesRan::Ok { text, frames } = run_values(alloc, &values) else {
+        panic!(rt; "no memory")
+    };
+    assert!(rt; text.as_slice() == told && are_of(frames.entries.as_slice(), count, time));
+}
+
+#[test]
+fn plans_run_to_their_ends_or_are_refused_at_their_line(rt: HostRuntime) {
+    for (text, told, count, time) in RUN {
+        assert_runs(&rt, rt.alloc(), text, told, count, time);
     }
-}
-
-#[test]
-fn an_animator_and_a_countdown_run_to_their_ends(rt: HostRuntime) {
-    assert_runs(&rt, rt.alloc(), BOTH, TOLD, 49, ends(116_666_669));
-}
-
-#[test]
-fn a_countdown_of_nothing_takes_one_frame(rt: HostRuntime) {
-    let text = b"animate 1\nperiod 1000000\ncountdown 0 10\nend\n";
-    assert_runs(
-        &rt,
-        rt.alloc(),
-        text,
-        b"values 1\n1000000 0 finished\nend\n",
-        7,
-        ends(1_000_000),
-    );
-}
-
-#[test]
-fn without_things_there_is_no_frame(rt: HostRuntime) {
-    assert_runs(
-        &rt,
-        rt.alloc(),
-        b"animate 1\nperiod 1000000\nend\n",
-        b"values 1\nend\n",
-        0,
-        None,
-    );
-}
-
-fn assert_bad(rt: &impl Abort, alloc: Global, text: &[u8], line: u64, cause: Cause) {
-    match parse_values(alloc, text) {
-        ParsedValues::Bad {
-            line: bad,
-            cause: why,
-        } => {
-            assert_eq!(rt; bad, line);
-            assert!(rt; why == cause);
-        }
-        ParsedValues::Ok(_) => panic!(rt; "read"),
-        ParsedValues::NoMemory => panic!(rt; "no memory"),
-    }
-}
-
-#[test]
-fn bad_texts_are_refused_at_their_line(rt: HostRuntime) {
-    for (text, line, cause) in &BAD {
-        assert_bad(&rt, rt.alloc(), text, *line, *cause);
+    for (text, wanted, why) in BAD {
+        let ParsedValues::Bad { line, cause } = parse_values(rt.alloc(), text) else {
+            panic!(rt; "not refused")
+        };
+        assert!(rt; line == wanted && cause == why, "at line {wanted}");
     }
 }

@@ -38,159 +38,220 @@ frames 1
 paints 1
 ";
 
-fn post(what: u32, callback: Option<u64>, when: u64) -> Call {
-    Call::Post(Post {
-        handler: 1,
-        what,
-        arg: 0,
-        obj: None,
-        callback,
-        when,
-        asynchronous: false,
-        slot: None,
-    })
-}
+/// A message for handler 1 without anything.
+const POST: Post = Post {
+    handler: 1,
+    what: 0,
+    arg: 0,
+    obj: None,
+    callback: None,
+    when: 0,
+    asynchronous: false,
+    slot: None,
+};
 
-fn entry(call: Call, reply: Reply) -> Entry {
+/// Whatever an entry of a queue has beside its call and its reply.
+const ENTRY: Entry = Entry {
+    sender: 0,
+    seq: 0,
+    call: Call::Next { now: 0 },
+    reply: Reply::Disposed,
+};
+
+/// The main queue's history.
+const MAIN: [Entry; 4] = [
     Entry {
-        sender: 0,
-        seq: 0,
-        call,
-        reply,
-    }
-}
-
-fn main_entries(alloc: Global) -> Result<Vec<Entry>, NoMemory> {
-    let entries = vec![in alloc;
-        entry(post(4, None, 20), Reply::Accepted { number: 0 }),
-        entry(
-            Call::Quit {
-                safe: false,
-                now: 10
-            },
-            Reply::NotAllowed
-        ),
-        entry(Call::Barrier { now: 10 }, Reply::Token { token: 0 }),
-        entry(Call::Unbarrier { token: 0 }, Reply::Unbarriered),
-    ]?;
-    Ok(entries)
-}
-
-fn side_entries(alloc: Global) -> Result<Vec<Entry>, NoMemory> {
-    let what = Filter {
-        handler: 1,
-        kind: Kind::What(3),
-        obj: None,
-    };
-    let entries = vec![in alloc;
-        entry(post(7, None, 10), Reply::Accepted { number: 0 }),
-        entry(post(0, Some(9), 5), Reply::Accepted { number: 1 }),
-        entry(Call::Next { now: 5 }, Reply::Dispatched { number: 1 }),
-        entry(Call::Next { now: 10 }, Reply::Dispatched { number: 0 }),
-        entry(Call::Unbarrier { token: 0 }, Reply::NotPosted),
-        entry(post(3, None, 20), Reply::Accepted { number: 2 }),
-        entry(Call::Remove(what), Reply::Removed { count: 1 }),
-        entry(post(4, None, 20), Reply::Accepted { number: 3 }),
-        entry(
-            Call::Quit {
-                safe: false,
-                now: 10
-            },
-            Reply::QuitDone
-        ),
-        entry(post(5, None, 20), Reply::Refused { place: 8 }),
-        entry(post(0, Some(6), 20), Reply::Refused { place: 8 }),
-        entry(
-            Call::Quit {
-                safe: true,
-                now: 10
-            },
-            Reply::AlreadyQuit { place: 8 }
-        ),
-        entry(Call::Next { now: 10 }, Reply::Disposed),
-    ]?;
-    Ok(entries)
-}
-
-fn main_acts(alloc: Global) -> Result<Vec<Act>, NoMemory> {
-    let acts = vec![in alloc;
-        Act::Idle { id: 3, kept: false },
-        Act::Event {
-            fd: 5,
-            events: 1,
-            mask: 0
+        call: Call::Post(Post {
+            what: 4,
+            when: 20,
+            ..POST
+        }),
+        reply: Reply::Accepted { number: 0 },
+        ..ENTRY
+    },
+    Entry {
+        call: Call::Quit {
+            safe: false,
+            now: 10,
         },
-        Act::Vsync { stamp: 33_333_334 },
-        Act::Paint { gauge: 0, value: 7 },
-        Act::Dispatch {
-            number: 0,
-            now: 20,
-            route: Route::Intercepted
-        },
-    ]?;
-    Ok(acts)
-}
+        reply: Reply::NotAllowed,
+        ..ENTRY
+    },
+    Entry {
+        call: Call::Barrier { now: 10 },
+        reply: Reply::Token { token: 0 },
+        ..ENTRY
+    },
+    Entry {
+        call: Call::Unbarrier { token: 0 },
+        reply: Reply::Unbarriered,
+        ..ENTRY
+    },
+];
 
-fn main_frames(alloc: Global) -> Result<Vec<FrameEntry>, NoMemory> {
-    let callback = Callback {
+/// The history of the queue that quits.
+const SIDE: [Entry; 13] = [
+    Entry {
+        call: Call::Post(Post {
+            what: 7,
+            when: 10,
+            ..POST
+        }),
+        reply: Reply::Accepted { number: 0 },
+        ..ENTRY
+    },
+    Entry {
+        call: Call::Post(Post {
+            callback: Some(9),
+            when: 5,
+            ..POST
+        }),
+        reply: Reply::Accepted { number: 1 },
+        ..ENTRY
+    },
+    Entry {
+        call: Call::Next { now: 5 },
+        reply: Reply::Dispatched { number: 1 },
+        ..ENTRY
+    },
+    Entry {
+        call: Call::Next { now: 10 },
+        reply: Reply::Dispatched { number: 0 },
+        ..ENTRY
+    },
+    Entry {
+        call: Call::Unbarrier { token: 0 },
+        reply: Reply::NotPosted,
+        ..ENTRY
+    },
+    Entry {
+        call: Call::Post(Post {
+            what: 3,
+            when: 20,
+            ..POST
+        }),
+        reply: Reply::Accepted { number: 2 },
+        ..ENTRY
+    },
+    Entry {
+        call: Call::Remove(Filter {
+            handler: 1,
+            kind: Kind::What(3),
+            obj: None,
+        }),
+        reply: Reply::Removed { count: 1 },
+        ..ENTRY
+    },
+    Entry {
+        call: Call::Post(Post {
+            what: 4,
+            when: 20,
+            ..POST
+        }),
+        reply: Reply::Accepted { number: 3 },
+        ..ENTRY
+    },
+    Entry {
+        call: Call::Quit {
+            safe: false,
+            now: 10,
+        },
+        reply: Reply::QuitDone,
+        ..ENTRY
+    },
+    Entry {
+        call: Call::Post(Post {
+            what: 5,
+            when: 20,
+            ..POST
+        }),
+        reply: Reply::Refused { place: 8 },
+        ..ENTRY
+    },
+    Entry {
+        call: Call::Post(Post {
+            callback: Some(6),
+            when: 20,
+            ..POST
+        }),
+        reply: Reply::Refused { place: 8 },
+        ..ENTRY
+    },
+    Entry {
+        call: Call::Quit {
+            safe: true,
+            now: 10,
+        },
+        reply: Reply::AlreadyQuit { place: 8 },
+        ..ENTRY
+    },
+    Entry {
+        call: Call::Next { now: 10 },
+        reply: Reply::Disposed,
+        ..ENTRY
+    },
+];
+
+const ACTS: [Act; 5] = [
+    Act::Idle { id: 3, kept: false },
+    Act::Event {
+        fd: 5,
+        events: 1,
+        mask: 0,
+    },
+    Act::Vsync { stamp: FRAME },
+    Act::Paint { gauge: 0, value: 7 },
+    Act::Dispatch {
+        number: 0,
+        now: 20,
+        route: Route::Intercepted,
+    },
+];
+
+/// The one frame's time.
+const FRAME: u64 = 33_333_334;
+
+const FRAMES: [FrameEntry; 5] = [
+    FrameEntry::Posted(Callback {
         number: 0,
         phase: 3,
         due: 30,
         id: 8,
         token: None,
-    };
-    let time = 33_333_334;
-    let entries = vec![in alloc;
-        FrameEntry::Posted(callback),
-        FrameEntry::Begin {
-            vsync: time,
-            start: time,
-            time
-        },
-        FrameEntry::Take {
-            phase: 0,
-            now: time,
-            time
-        },
-        FrameEntry::Ran { number: 0 },
-        FrameEntry::Removed {
-            phase: 3,
-            id: 9,
-            token: None,
-            count: 0
-        },
-    ]?;
-    Ok(entries)
+    }),
+    FrameEntry::Begin {
+        vsync: FRAME,
+        start: FRAME,
+        time: FRAME,
+    },
+    FrameEntry::Take {
+        phase: 0,
+        now: FRAME,
+        time: FRAME,
+    },
+    FrameEntry::Ran { number: 0 },
+    FrameEntry::Removed {
+        phase: 3,
+        id: 9,
+        token: None,
+        count: 0,
+    },
+];
+
+fn list<T: Copy + Drop>(alloc: Global, elements: &[T]) -> Result<Sequence<T>, NoMemory> {
+    Ok(Sequence::from_vec(Vec::from_slice(alloc, elements)?))
 }
 
-fn script(alloc: Global) -> Script {
-    Script {
-        edition: 1,
-        loopers: 2,
-        threads: 1,
-        handlers: Sequence::new(alloc),
-        gauges: Sequence::new(alloc),
-        period: 16_666_667,
-        rules: Sequence::new(alloc),
-        blocks: Sequence::new(alloc),
-        end: 20,
-    }
-}
-
-/// A part of a history. What it starts from isn't printed.
-fn part(alloc: Global, entries: &[Entry]) -> Result<Segment, NoMemory> {
-    Ok(Segment {
-        base: Base::empty(alloc, 4)?,
-        entries: Sequence::from_vec(Vec::from_slice(alloc, entries)?),
-    })
-}
-
-/// The queue's history in two parts.
+/// The queue's history in two parts. What a part starts from isn't printed.
 fn queue(alloc: Global, looper: u32, entries: &[Entry]) -> Result<QueueRecord, NoMemory> {
-    let first = entries.len() / 2;
+    let (first, second) = entries.split_at(entries.len() / 2);
     let mut segments = Sequence::new(alloc);
-    segments.push(part(alloc, &entries[..first])?)?;
-    segments.push(part(alloc, &entries[first..])?)?;
+    for part in [first, second] {
+        segments.push(Segment {
+            base: Base::empty(alloc, 4)?,
+            entries: list(alloc, part)?,
+        })?;
+    }
     Ok(QueueRecord {
         looper,
         main: looper == 0,
@@ -200,38 +261,44 @@ fn queue(alloc: Global, looper: u32, entries: &[Entry]) -> Result<QueueRecord, N
     })
 }
 
-fn journal(looper: u32, acts: Vec<Act>) -> Journal {
-    Journal {
-        looper,
-        acts: Sequence::from_vec(acts),
-    }
-}
-
-fn frames(looper: u32, entries: Vec<FrameEntry>) -> FrameRecord {
-    FrameRecord {
-        looper,
-        interval: 16_666_667,
-        phases: 4,
-        entries: Sequence::from_vec(entries),
-    }
-}
-
 /// A report whose records have an entry of each kind.
 fn report(alloc: Global) -> Result<Report, NoMemory> {
+    let script = Script {
+        edition: 1,
+        loopers: 2,
+        threads: 1,
+        handlers: Sequence::new(alloc),
+        gauges: Sequence::new(alloc),
+        period: 16_666_667,
+        rules: Sequence::new(alloc),
+        blocks: Sequence::new(alloc),
+        end: 20,
+    };
     let mut queues = Sequence::new(alloc);
-    queues.push(queue(alloc, 0, &main_entries(alloc)?)?)?;
-    queues.push(queue(alloc, 1, &side_entries(alloc)?)?)?;
     let mut journals = Sequence::new(alloc);
-    journals.push(journal(0, main_acts(alloc)?))?;
-    journals.push(journal(1, Vec::new(alloc)))?;
-    let mut records = Sequence::new(alloc);
-    records.push(frames(0, main_frames(alloc)?))?;
-    records.push(frames(1, Vec::new(alloc)))?;
+    let mut frames = Sequence::new(alloc);
+    let both: [(u32, &[Entry], &[Act], &[FrameEntry]); 2] = [
+        (0, &MAIN, &ACTS, &FRAMES),
+        (1, &SIDE, &[], &[]),
+    ];
+    for (looper, entries, acts, of_frames) in both {
+        queues.push(queue(alloc, looper, entries)?)?;
+        journals.push(Journal {
+            looper,
+            acts: list(alloc, acts)?,
+        })?;
+        frames.push(FrameRecord {
+            looper,
+            interval: 16_666_667,
+            phases: 4,
+            entries: list(alloc, of_frames)?,
+        })?;
+    }
     Ok(Report {
-        script: script(alloc),
+        script,
         queues,
         journals,
-        frames: records,
+        frames,
         start: 0,
     })
 }

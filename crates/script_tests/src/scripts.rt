@@ -1,7 +1,6 @@
 //! Scripts read, printed, refused, brought up and generated.
 
 use dash_script::{Cause, Parsed, make_script, migrate, parse, print};
-use std::process::Abort;
 use std::test::Fail;
 
 const ONE_POST: &[u8] =
@@ -23,14 +22,227 @@ const FOUR_PHASES: &[u8] =
 const FIVE_PHASES: &[u8] =
     b"dashboard 2\nloopers 1\nthreads 1\nvsync 16666667\nat 10\n0 frame 0 0 8 0\n0 frame 0 1 8 0\n0 frame 0 3 8 0\n0 frame 0 4 8 0\n0 unframe 0 1 8\n0 unframe 0 3 8\n0 unframe 0 4 8\nend 60\n";
 
-/// The same bytes again, through the script.
-fn again<R: Abort + AllocGlobal>(rt: &R, text: &[u8]) -> Result<(), Fail> {
+/// Scripts with what is printed of them, as they are or brought up to edition 2.
+const PRINTED: [(&[u8], bool, &[u8]); 8] = [
+    (ONE_POST, false, ONE_POST),
+    (GAUGE, false, GAUGE),
+    (WHOLE, false, WHOLE),
+    (EVERY, false, EVERY),
+    (FOUR_PHASES, false, FOUR_PHASES),
+    (FIVE_PHASES, false, FIVE_PHASES),
+    (FOUR_PHASES, true, FIVE_PHASES),
+    (FIVE_PHASES, true, FIVE_PHASES),
+];
+
+/// Texts that are no script, with their line and its cause.
+const BAD: [(&[u8], u64, Cause); 37] = [
+    (b"", 1, Cause::Missing),
+    (b"\n", 1, Cause::Form),
+    (b"dashboard 1\nloopers 1\nthre", 3, Cause::Form),
+    (b"dashboard 2\nloopers 1\n", 3, Cause::Missing),
+    (b"dashboard 3\n", 1, Cause::Form),
+    (b"dashboard  1\n", 1, Cause::Form),
+    (b" dashboard 1\n", 1, Cause::Form),
+    (b"dashboard 1 \n", 1, Cause::Form),
+    (b"dashboard 01\n", 1, Cause::Form),
+    (b"loopers 1\n", 1, Cause::Form),
+    (b"dashboard 1\nloopers 0\n", 2, Cause::Range),
+    (b"dashboard 1\nloopers 9\n", 2, Cause::Range),
+    (b"dashboard 1\nloopers 08\n", 2, Cause::Form),
+    (b"dashboard 1\nloopers +8\n", 2, Cause::Form),
+    (
+        b"dashboard 1\nloopers 18446744073709551615\n",
+        2,
+        Cause::Range,
+    ),
+    (
+        b"dashboard 1\nloopers 18446744073709551616\n",
+        2,
+        Cause::Form,
+    ),
+    (b"dashboard 1\nloopers 1\nthreads 17\n", 3, Cause::Range),
+    (
+        b"dashboard 1\nloopers 1\nthreads 1\nhandler 0 1\n",
+        4,
+        Cause::Unknown,
+    ),
+    (
+        b"dashboard 1\nloopers 1\nthreads 1\nhandler 1 0\n",
+        4,
+        Cause::Order,
+    ),
+    (
+        b"dashboard 1\nloopers 1\nthreads 1\nhandler 4294967296 0\n",
+        4,
+        Cause::Range,
+    ),
+    (
+        b"dashboard 1\nloopers 1\nthreads 1\nhandler 1 1\n",
+        4,
+        Cause::Unknown,
+    ),
+    (
+        b"dashboard 1\nloopers 1\nthreads 1\ngauge 0 0 3\n",
+        4,
+        Cause::Unknown,
+    ),
+    (b"dashboard 1\nloopers 1\nthreads 1\nat 0\n", 4, Cause::Form),
+    (
+        b"dashboard 1\nloopers 1\nthreads 1\nvsync 999999\n",
+        4,
+        Cause::Range,
+    ),
+    (
+        b"dashboard 1\nloopers 1\nthreads 1\nvsync 1000000\nhandler 0 0\n",
+        5,
+        Cause::Form,
+    ),
+    (
+        b"dashboard 1\nloopers 1\nthreads 1\nvsync 1000000\n0 quit 0\n",
+        5,
+        Cause::Form,
+    ),
+    (
+        b"dashboard 1\nloopers 1\nthreads 1\nvsync 1000000\nat 5\nat 5\n",
+        6,
+        Cause::Order,
+    ),
+    (
+        b"dashboard 1\nloopers 1\nthreads 1\nvsync 1000000\nat 5\nend 4\n",
+        6,
+        Cause::Order,
+    ),
+    (
+        b"dashboard 1\nloopers 1\nthreads 1\nvsync 1000000\nend 4\nend 4\n",
+        6,
+        Cause::Form,
+    ),
+    (
+        b"dashboard 1\nloopers 1\nthreads 1\nvsync 1000000\nend 4\n\n",
+        6,
+        Cause::Form,
+    ),
+    (
+        b"dashboard 1\nloopers 1\nthreads 1\nvsync 1000000\nat 0\n1 quit 0\n",
+        6,
+        Cause::Unknown,
+    ),
+    (
+        b"dashboard 1\nloopers 1\nthreads 1\nvsync 1000000\nat 0\n0 unbarrier 0\n",
+        6,
+        Cause::Unknown,
+    ),
+    (
+        b"dashboard 1\nloopers 1\nthreads 1\nvsync 1000000\nat 0\n0 barrier 0 0\n0 barrier 0 0\n",
+        7,
+        Cause::Order,
+    ),
+    (
+        b"dashboard 1\nloopers 1\nthreads 1\nvsync 1000000\nat 0\n0 frame 0 4 7 0\n",
+        6,
+        Cause::Range,
+    ),
+    (
+        b"dashboard 2\nloopers 1\nthreads 1\nvsync 1000000\nat 0\n0 frame 0 5 7 0\n",
+        6,
+        Cause::Range,
+    ),
+    (
+        b"dashboard 1\nloopers 1\nthreads 2\nvsync 1000000\nat 0\n0 barrier 0 5\n1 unbarrier 5\n",
+        7,
+        Cause::Unknown,
+    ),
+    (
+        b"dashboard 1\nloopers 1\nthreads 1\nhandler 0 0\nvsync 1000000\non 0 1 times 0 post 0 1 0\n",
+        6,
+        Cause::Range,
+    ),
+];
+
+/// A head, as many lines of a word, a place and a rest, an end; and the line and the cause for which it is refused, if it is.
+type Many = (
+    &'static [u8],
+    &'static str,
+    &'static str,
+    u32,
+    &'static [u8],
+    Option<(u64, Cause)>,
+);
+
+const DECLARED: &[u8] = b"dashboard 1\nloopers 1\nthreads 1\n";
+
+const HANDLER: &[u8] = b"dashboard 1\nloopers 1\nthreads 1\nhandler 0 0\n";
+
+const RULES: &[u8] = b"dashboard 1\nloopers 1\nthreads 1\nhandler 0 0\nvsync 16666667\n";
+
+const BLOCK: &[u8] = b"dashboard 1\nloopers 1\nthreads 1\nhandler 0 0\nvsync 16666667\nat 0\n";
+
+const STEPS: &[u8] =
+    b"dashboard 1\nloopers 1\nthreads 1\nhandler 0 0\ngauge 0 0 1\nvsync 16666667\nat 0\n";
+
+const END: &[u8] = b"end 0\n";
+
+const VSYNC: &[u8] = b"vsync 1000000\nend 0\n";
+
+/// Scripts at their limits, and one line more.
+const LIMITS: [Many; 9] = [
+    (BLOCK, "0 post 0", "0", 19_993, END, None),
+    (
+        BLOCK,
+        "0 post 0",
+        "0",
+        19_994,
+        END,
+        Some((20_001, Cause::TooMany)),
+    ),
+    (
+        BLOCK,
+        "0 post 0",
+        "0",
+        19_994,
+        b"",
+        Some((20_001, Cause::TooMany)),
+    ),
+    (STEPS, "0 set 0", "", 101, END, Some((108, Cause::TooMany))),
+    (
+        RULES,
+        "on 0",
+        "times 50000 post 0 0 0",
+        3,
+        END,
+        Some((8, Cause::TooMany)),
+    ),
+    (DECLARED, "handler", "0", 64, VSYNC, None),
+    (
+        DECLARED,
+        "handler",
+        "0",
+        65,
+        VSYNC,
+        Some((68, Cause::TooMany)),
+    ),
+    (HANDLER, "gauge", "0 3", 16, VSYNC, None),
+    (
+        HANDLER,
+        "gauge",
+        "0 3",
+        17,
+        VSYNC,
+        Some((21, Cause::TooMany)),
+    ),
+];
+
+/// What is printed of a script, brought up to edition 2 or not.
+fn printed<R: AllocGlobal>(rt: &R, text: &[u8], up: bool) -> Result<Vec<u8>, Fail> {
     let Parsed::Ok(script) = parse(rt.alloc(), text) else {
         return Err(Fail::from("no script"));
     };
-    let printed = print(rt.alloc(), &script).ok().ok_or("no memory")?;
-    assert_eq!(rt; printed.as_slice(), text);
-    Ok(())
+    let script = if up {
+        migrate(rt.alloc(), &script).ok().ok_or("no memory")?
+    } else {
+        script
+    };
+    Ok(print(rt.alloc(), &script).ok().ok_or("no memory")?)
 }
 
 /// The line and the cause of a text that is no script.
@@ -42,35 +254,31 @@ fn bad<R: AllocGlobal>(rt: &R, text: &[u8]) -> Option<(u64, Cause)> {
 }
 
 #[test]
-fn the_same_bytes(rt: HostRuntime) -> Result<(), Fail> {
-    for text in [ONE_POST, GAUGE, WHOLE, EVERY, FOUR_PHASES, FIVE_PHASES] {
-        again(&rt, text)?;
+fn scripts_are_printed_again_and_brought_up(rt: HostRuntime) -> Result<(), Fail> {
+    for (text, up, wanted) in PRINTED {
+        assert_eq!(rt; printed(&rt, text, up)?.as_slice(), wanted);
     }
-    Ok(())
-}
-
-/// The text of the script in edition 2.
-fn brought_up<R: Abort + AllocGlobal>(rt: &R, text: &[u8], wanted: &[u8]) -> Result<(), Fail> {
-    let Parsed::Ok(script) = parse(rt.alloc(), text) else {
-        return Err(Fail::from("no script"));
-    };
-    let Ok(up) = migrate(rt.alloc(), &script) else {
+    let Ok(script) = make_script(rt.alloc(), 0) else {
         return Err(Fail::from("no memory"));
     };
-    let printed = print(rt.alloc(), &up).ok().ok_or("no memory")?;
-    assert_eq!(rt; printed.as_slice(), wanted);
+    let text = print(rt.alloc(), &script).ok().ok_or("no memory")?;
+    let lines = text.iter().filter(|byte| **byte == b'\n').count();
+    assert_eq!(rt; lines, 2_525);
+    let first =
+        b"on 7 2 times 1000 post 0 3 1\nat 0\n0 post 0 2 0\n1 post 0 2 0\n2 post 3 3 28\n3 post 3 3 45\nat 10\n";
+    assert!(rt;
+        text.windows(first.len())
+            .any(|window| window == first.as_slice())
+    );
+    assert_eq!(rt; printed(&rt, &text, false)?.as_slice(), text.as_slice());
     Ok(())
 }
 
 #[test]
-fn edition_2(rt: HostRuntime) -> Result<(), Fail> {
-    brought_up(&rt, FOUR_PHASES, FIVE_PHASES)?;
-    brought_up(&rt, FIVE_PHASES, FIVE_PHASES)?;
-    Ok(())
-}
-
-#[test]
-fn a_front_is_no_script(rt: HostRuntime) {
+fn other_texts_and_each_front_are_refused(rt: HostRuntime) {
+    for (text, line, cause) in BAD {
+        assert_eq!(rt; bad(&rt, text), Some((line, cause)));
+    }
     let mut line = 1u64;
     let mut fresh = true;
     for length in 0..GAUGE.len() {
@@ -84,248 +292,51 @@ fn a_front_is_no_script(rt: HostRuntime) {
     }
 }
 
-#[test]
-fn refusals(rt: HostRuntime) {
-    let cases: [(&[u8], u64, Cause); 37] = [
-        (b"", 1, Cause::Missing),
-        (b"\n", 1, Cause::Form),
-        (b"dashboard 1\nloopers 1\nthre", 3, Cause::Form),
-        (b"dashboard 2\nloopers 1\n", 3, Cause::Missing),
-        (b"dashboard 3\n", 1, Cause::Form),
-        (b"dashboard  1\n", 1, Cause::Form),
-        (b" dashboard 1\n", 1, Cause::Form),
-        (b"dashboard 1 \n", 1, Cause::Form),
-        (b"dashboard 01\n", 1, Cause::Form),
-        (b"loopers 1\n", 1, Cause::Form),
-        (b"dashboard 1\nloopers 0\n", 2, Cause::Range),
-        (b"dashboard 1\nloopers 9\n", 2, Cause::Range),
-        (b"dashboard 1\nloopers 08\n", 2, Cause::Form),
-        (b"dashboard 1\nloopers +8\n", 2, Cause::Form),
-        (
-            b"dashboard 1\nloopers 18446744073709551615\n",
-            2,
-            Cause::Range,
-        ),
-        (
-            b"dashboard 1\nloopers 18446744073709551616\n",
-            2,
-            Cause::Form,
-        ),
-        (b"dashboard 1\nloopers 1\nthreads 17\n", 3, Cause::Range),
-        (
-            b"dashboard 1\nloopers 1\nthreads 1\nhandler 0 1\n",
-            4,
-            Cause::Unknown,
-        ),
-        (
-            b"dashboard 1\nloopers 1\nthreads 1\nhandler 1 0\n",
-            4,
-            Cause::Order,
-        ),
-        (
-            b"dashboard 1\nloopers 1\nthreads 1\nhandler 4294967296 0\n",
-            4,
-            Cause::Range,
-        ),
-        (
-            b"dashboard 1\nloopers 1\nthreads 1\nhandler 1 1\n",
-            4,
-            Cause::Unknown,
-        ),
-        (
-            b"dashboard 1\nloopers 1\nthreads 1\ngauge 0 0 3\n",
-            4,
-            Cause::Unknown,
-        ),
-        (b"dashboard 1\nloopers 1\nthreads 1\nat 0\n", 4, Cause::Form),
-        (
-            b"dashboard 1\nloopers 1\nthreads 1\nvsync 999999\n",
-            4,
-            Cause::Range,
-        ),
-        (
-            b"dashboard 1\nloopers 1\nthreads 1\nvsync 1000000\nhandler 0 0\n",
-            5,
-            Cause::Form,
-        ),
-        (
-            b"dashboard 1\nloopers 1\nthreads 1\nvsync 1000000\n0 quit 0\n",
-            5,
-            Cause::Form,
-        ),
-        (
-            b"dashboard 1\nloopers 1\nthreads 1\nvsync 1000000\nat 5\nat 5\n",
-            6,
-            Cause::Order,
-        ),
-        (
-            b"dashboard 1\nloopers 1\nthreads 1\nvsync 1000000\nat 5\nend 4\n",
-            6,
-            Cause::Order,
-        ),
-        (
-            b"dashboard 1\nloopers 1\nthreads 1\nvsync 1000000\nend 4\nend 4\n",
-            6,
-            Cause::Form,
-        ),
-        (
-            b"dashboard 1\nloopers 1\nthreads 1\nvsync 1000000\nend 4\n\n",
-            6,
-            Cause::Form,
-        ),
-        (
-            b"dashboard 1\nloopers 1\nthreads 1\nvsync 1000000\nat 0\n1 quit 0\n",
-            6,
-            Cause::Unknown,
-        ),
-        (
-            b"dashboard 1\nloopers 1\nthreads 1\nvsync 1000000\nat 0\n0 unbarrier 0\n",
-            6,
-            Cause::Unknown,
-        ),
-        (
-            b"dashboard 1\nloopers 1\nthreads 1\nvsync 1000000\nat 0\n0 barrier 0 0\n0 barrier 0 0\n",
-            7,
-            Cause::Order,
-        ),
-        (
-            b"dashboard 1\nloopers 1\nthreads 1\nvsync 1000000\nat 0\n0 frame 0 4 7 0\n",
-            6,
-            Cause::Range,
-        ),
-        (
-            b"dashboard 2\nloopers 1\nthreads 1\nvsync 1000000\nat 0\n0 frame 0 5 7 0\n",
-            6,
-            Cause::Range,
-        ),
-        (
-            b"dashboard 1\nloopers 1\nthreads 2\nvsync 1000000\nat 0\n0 barrier 0 5\n1 unbarrier 5\n",
-            7,
-            Cause::Unknown,
-        ),
-        (
-            b"dashboard 1\nloopers 1\nthreads 1\nhandler 0 0\nvsync 1000000\non 0 1 times 0 post 0 1 0\n",
-            6,
-            Cause::Range,
-        ),
-    ];
-    for (text, line, cause) in cases {
-        assert_eq!(rt; bad(&rt, text), Some((line, cause)));
-    }
-}
-
-/// A head, then the same line so many times, then an end.
-fn repeated<R: AllocGlobal>(
-    rt: &R,
-    head: &[u8],
-    line: &[u8],
-    times: u32,
-    last: &[u8],
-) -> Result<Vec<u8>, Fail> {
-    let mut text = Vec::from_slice(rt.alloc(), head)?;
-    for _ in 0..times {
-        text.extend_from_slice(line)?;
-    }
-    text.extend_from_slice(last)?;
-    Ok(text)
-}
-
-#[test]
-fn too_many(rt: HostRuntime) -> Result<(), Fail> {
-    let head = b"dashboard 1\nloopers 1\nthreads 1\nhandler 0 0\nvsync 16666667\nat 0\n";
-    let most = repeated(&rt, head, b"0 post 0 1 0\n", 19_993, b"end 0\n")?;
-    again(&rt, &most)?;
-    let more = repeated(&rt, head, b"0 post 0 1 0\n", 19_994, b"end 0\n")?;
-    assert_eq!(rt; bad(&rt, &more), Some((20_001, Cause::TooMany)));
-    let no_end = repeated(&rt, head, b"0 post 0 1 0\n", 19_994, b"")?;
-    assert_eq!(rt; bad(&rt, &no_end), Some((20_001, Cause::TooMany)));
-    let gauges =
-        b"dashboard 1\nloopers 1\nthreads 1\nhandler 0 0\ngauge 0 0 1\nvsync 16666667\nat 0\n";
-    let steps = repeated(&rt, gauges, b"0 set 0 0\n", 101, b"end 0\n")?;
-    assert_eq!(rt; bad(&rt, &steps), Some((108, Cause::TooMany)));
-    let head = b"dashboard 1\nloopers 1\nthreads 1\nhandler 0 0\nvsync 16666667\n";
-    let rules = repeated(&rt, head, b"on 0 0 times 50000 post 0 0 0\n", 3, b"end 0\n")?;
-    assert_eq!(rt; bad(&rt, &rules), Some((8, Cause::TooMany)));
-    Ok(())
-}
-
-/// A line of each of so many labels for each of the sixteen threads.
-fn labelled<R: AllocGlobal>(
+/// Adds as many lines of a word, a place and a rest.
+fn add_lines<R: AllocGlobal>(
     rt: &R,
     text: &mut Vec<u8>,
     word: &str,
-    labels: u32,
+    rest: &str,
+    times: u32,
 ) -> Result<(), Fail> {
-    for thread in 0..16u32 {
-        for label in 0..labels {
-            let line = format!(in rt.alloc(); "{thread} {word} {label}\n")?;
-            text.extend_from_slice(line.as_bytes())?;
+    let space = if rest.is_empty() { "" } else { " " };
+    for place in 0..times {
+        let line = format!(in rt.alloc(); "{word} {place}{space}{rest}\n")?;
+        text.extend_from_slice(line.as_bytes())?;
+    }
+    Ok(())
+}
+
+#[test]
+fn limits_are_kept(rt: HostRuntime) -> Result<(), Fail> {
+    for (head, word, rest, times, last, refused) in LIMITS {
+        let mut text = Vec::from_slice(rt.alloc(), head)?;
+        add_lines(&rt, &mut text, word, rest, times)?;
+        text.extend_from_slice(last)?;
+        match refused {
+            Some(_) => assert_eq!(rt; bad(&rt, &text), refused),
+            None => assert_eq!(rt; printed(&rt, &text, false)?.as_slice(), text.as_slice()),
         }
     }
     Ok(())
 }
 
+/// Each thread posts a barrier of each label, and removes some.
 #[test]
-fn every_label(rt: HostRuntime) -> Result<(), Fail> {
+fn each_thread_has_each_label(rt: HostRuntime) -> Result<(), Fail> {
     let head = b"dashboard 1\nloopers 1\nthreads 16\nvsync 1000000\nat 0\n";
     let mut text = Vec::from_slice(rt.alloc(), head)?;
-    labelled(&rt, &mut text, "barrier 0", 1_000)?;
-    labelled(&rt, &mut text, "unbarrier", 249)?;
+    for (word, labels) in [("barrier 0", 1_000), ("unbarrier", 249)] {
+        for thread in 0..16u32 {
+            let word = format!(in rt.alloc(); "{thread} {word}")?;
+            add_lines(&rt, &mut text, &word, "", labels)?;
+        }
+    }
     let mut more = text.clone()?;
-    text.extend_from_slice(b"end 0\n")?;
-    again(&rt, &text)?;
+    text.extend_from_slice(END)?;
+    assert_eq!(rt; printed(&rt, &text, false)?.as_slice(), text.as_slice());
     more.extend_from_slice(b"15 barrier 0 999\nend 0\n")?;
     assert_eq!(rt; bad(&rt, &more), Some((19_990, Cause::Order)));
     Ok(())
-}
-
-/// A head, then as many lines, each with its place.
-fn numbered<R: AllocGlobal>(
-    rt: &R,
-    head: &[u8],
-    word: &str,
-    rest: &str,
-    times: u32,
-    last: &[u8],
-) -> Result<Vec<u8>, Fail> {
-    let mut text = Vec::from_slice(rt.alloc(), head)?;
-    for place in 0..times {
-        let line = format!(in rt.alloc(); "{word} {place} {rest}\n")?;
-        text.extend_from_slice(line.as_bytes())?;
-    }
-    text.extend_from_slice(last)?;
-    Ok(text)
-}
-
-#[test]
-fn too_many_declared(rt: HostRuntime) -> Result<(), Fail> {
-    let head = b"dashboard 1\nloopers 1\nthreads 1\n";
-    let last = b"vsync 1000000\nend 0\n";
-    let most = numbered(&rt, head, "handler", "0", 64, last)?;
-    again(&rt, &most)?;
-    let more = numbered(&rt, head, "handler", "0", 65, last)?;
-    assert_eq!(rt; bad(&rt, &more), Some((68, Cause::TooMany)));
-    let head = b"dashboard 1\nloopers 1\nthreads 1\nhandler 0 0\n";
-    let most = numbered(&rt, head, "gauge", "0 3", 16, last)?;
-    again(&rt, &most)?;
-    let more = numbered(&rt, head, "gauge", "0 3", 17, last)?;
-    assert_eq!(rt; bad(&rt, &more), Some((21, Cause::TooMany)));
-    Ok(())
-}
-
-#[test]
-fn generated(rt: HostRuntime) -> Result<(), Fail> {
-    let Ok(script) = make_script(rt.alloc(), 0) else {
-        return Err(Fail::from("no memory"));
-    };
-    let text = print(rt.alloc(), &script).ok().ok_or("no memory")?;
-    let lines = text.iter().filter(|byte| **byte == b'\n').count();
-    assert_eq!(rt; lines, 2_525);
-    let first =
-        b"on 7 2 times 1000 post 0 3 1\nat 0\n0 post 0 2 0\n1 post 0 2 0\n2 post 3 3 28\n3 post 3 3 45\nat 10\n";
-    assert!(rt;
-        text.windows(first.len())
-            .any(|window| window == first.as_slice())
-    );
-    again(&rt, &text)
 }

@@ -4,17 +4,14 @@ use animator::{Animator, Key, Keys, Plan, Valued};
 use countdown::{Countdown, Ticked};
 
 #[test]
-fn a_countdown_over_frames(rt: HostRuntime) {
+fn a_countdown_and_an_animator_over_frames(rt: HostRuntime) {
     let mut countdown = Countdown::new(100, 40);
     assert_eq!(rt; countdown.on_frame(16_666_667), Ticked::Tick { left: 100 });
     assert_eq!(rt; countdown.on_frame(33_333_334), Ticked::Quiet);
     assert_eq!(rt; countdown.on_frame(66_666_668), Ticked::Tick { left: 50 });
     assert_eq!(rt; countdown.on_frame(116_666_669), Ticked::Finished);
     assert_eq!(rt; countdown.on_frame(133_333_336), Ticked::Over);
-}
 
-#[test]
-fn an_animator_over_frames(rt: HostRuntime) {
     let mut keys = Keys::new();
     assert!(rt; keys.push(Key { at: 0, value: 0 }));
     assert!(rt;
