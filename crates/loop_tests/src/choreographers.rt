@@ -1,6 +1,5 @@
 //! A choreographer over small hosts and clients.
-ghost use Rattle.std.specs.Prelude.{◌≡◌, ◌≢◌, ◌==◌, ◌+◌, ◌<◌, ◌≤◌, ℕ, [], Some, None, length, IfOk, OnOk, IfSome, IsTrue, true};
-ghost use Rattle.std.proofs.Common.{subst, sym};
+ghost use Rattle.std.specs.Prelude.{◌≡◌, ◌≢◌, ◌==◌, ◌+◌, ◌<◌, ℕ, [], Some, None, IfOk, OnOk, IfSome, IsTrue, true};
 ghost use Rattle.std.specs.Thread.{IsSync};
 ghost use mathlib.Core.List.{IsPrefix};
 ghost use Rattle.frame_phases.specs.Frames.{lawful};
@@ -80,79 +79,16 @@ const fn taken(what: u32, arg: u32, when: u64) -> Sending {
     }
 }
 
-/// A choreographer with a pulse each `interval` nanoseconds, and its three passes.
-fn three(
-    alloc: Global,
-    interval: u64,
-) -> Result<(Choreographer, FramePass, FramePass, FramePass), NoMemory>
-    requires { 0 < interval }
-    ensures passes { IfOk result (λ r. IsPassOf r.1 r.0 × IsPassOf r.2 r.0 × IsPassOf r.3 r.0) }
+/// A choreographer with a pulse each 10 milliseconds, and its two passes.
+fn with_two_passes(alloc: Global) -> Result<(Choreographer, FramePass, FramePass), NoMemory>
+    ensures passes { IfOk result (λ r. IsPassOf r.1 r.0 × IsPassOf r.2 r.0) }
     ensures phases { IfOk result (λ r. r.0.constants.phases ≡ 4) }
     ensures pulses { IfOk result (λ r. r.0.constants.pulses ≡ None) }
 {
-    let (c, mut passes) = Choreographer::make(alloc, 0, interval, 4, 3)?;
-    let third = passes.pop().unwrap();
+    let (c, mut passes) = Choreographer::make(alloc, 0, 10_000_000, 4, 2)?;
     let second = passes.pop().unwrap();
     let first = passes.pop().unwrap();
-    Ok((c, first, second, third))
-}
-
-/// A client that posts a traversal from each animation, by a pass of its own.
-#[derive(Drop)]
-struct Animator<'a, R: Wait> {
-    rt: &'a R,
-    pass: FramePass,
-    ran: Vec<(Callback, u64)>,
-}
-
-impl<'a, R: Wait> FrameClient<StillHost> for Animator<'a, R> {
-    ghost Serves = { λ l c. IsPassOf l.pass c × (2 < c.constants.phases) };
-
-    ghost Origin = { ℕ };
-
-    ghost origin = { λ l. 0 };
-
-    ghost ran = { λ l. Some l.ran.items };
-
-    // each send of the host has a callback that caused it
-    ghost Meets = { λ l h. length h.sent.items ≤ length l.ran.items };
-
-    fn run(
-        &mut self,
-        c: &Choreographer,
-        host: &mut StillHost,
-        callback: &Callback,
-        time: u64,
-    ) -> ClientRan {
-        if self.ran.push((*callback, time)).is_err() {
-            return ClientRan::NoMemory;
-        }
-        if callback.phase == 1 {
-            c.post_callback(self.rt, &mut self.pass, host, 2, callback.id, None, 1);
-        }
-        ClientRan::Done
-    }
-
-    ghost stays = { λ l h now k reads meets. subst (λ x. length x.sent.items ≤ length l.ran.items) (sym reads) meets };
-}
-
-#[test]
-#[tactic(auto, using(choreographer::proofs::Pulsing::any_begins))]
-fn an_animation_posts_a_traversal(rt: HostRuntime) -> Result<(), Fail> {
-    let (choreographer, mut pass, other, _) = three(rt.alloc(), 16_000_000)?;
-    let mut host = still(rt.alloc(), 20_000_000);
-    let mut client = Animator {
-        rt: &rt,
-        pass: other,
-        ran: Vec::new(rt.alloc()),
-    };
-    let placed = choreographer.post_callback(&rt, &mut pass, &mut host, 1, 5, None, 0);
-    assert!(rt; placed == Placed::Asked);
-    let framed = choreographer.do_frame(&rt, &mut pass, &mut host, &mut client);
-    assert!(rt; framed == Framed::Done);
-    assert!(rt; client.ran.as_slice() == [(callback(0, 1, 20, 5), 16_000_000)].as_slice());
-    assert!(rt; host.sent.as_slice() == [taken(DUE_MESSAGE, 2, 21)].as_slice());
-    Ok(())
+    Ok((c, first, second))
 }
 
 /// A client whose callback 5 posts 6 for its own phase and 7 for the next one, by a pass of its own.
@@ -243,7 +179,7 @@ fn frame_at<R: Wait>(
 fn a_callback_for_a_later_phase_runs_at_once_and_one_for_its_own_waits(
     rt: HostRuntime,
 ) -> Result<(), Fail> {
-    let (c, mut pass, other, _) = three(rt.alloc(), 10_000_000)?;
+    let (c, mut pass, other) = with_two_passes(rt.alloc())?;
     let mut host = still(rt.alloc(), 20_000_000);
     let mut client = Relay {
         rt: &rt,
@@ -273,29 +209,6 @@ fn a_callback_for_a_later_phase_runs_at_once_and_one_for_its_own_waits(
     assert!(rt; host.sent.as_slice() == sent.as_slice());
     let framed = frame_at(&rt, &c, &mut pass, &mut host, &mut client, 50_000_000);
     assert!(rt; framed == Framed::Unscheduled);
-    Ok(())
-}
-
-#[test]
-fn a_clock_that_goes_back_asks_for_a_later_pulse(rt: HostRuntime) -> Result<(), Fail> {
-    let (c, mut pass, other, _) = three(rt.alloc(), 10_000_000)?;
-    let mut host = still(rt.alloc(), 20_000_000);
-    let mut client = Relay {
-        rt: &rt,
-        pass: other,
-        ran: Vec::new(rt.alloc()),
-    };
-    let placed = c.post_callback(&rt, &mut pass, &mut host, 0, 9, None, 0);
-    assert!(rt; placed == Placed::Asked);
-    let framed = frame_at(&rt, &c, &mut pass, &mut host, &mut client, 30_000_000);
-    assert!(rt; framed == Framed::Done);
-    host.now = 15_000_000;
-    let placed = c.post_callback(&rt, &mut pass, &mut host, 0, 9, None, 0);
-    assert!(rt; placed == Placed::Asked && c.asked(&rt, &mut pass) == Some(40_000_000));
-    let framed = frame_at(&rt, &c, &mut pass, &mut host, &mut client, 25_000_000);
-    assert!(rt; framed == Framed::Backwards { last: 30_000_000 });
-    assert!(rt; client.ran.as_slice() == [(callback(0, 0, 20, 9), 30_000_000)].as_slice());
-    assert!(rt; c.asked(&rt, &mut pass) == Some(40_000_000));
     Ok(())
 }
 
@@ -366,7 +279,7 @@ impl FrameClient<HurryingHost> for Keeper {
 fn each_phase_reads_the_clock_and_a_late_commit_moves_the_time_on(
     rt: HostRuntime,
 ) -> Result<(), Fail> {
-    let (c, mut pass, _, _) = three(rt.alloc(), 10_000_000)?;
+    let (c, mut pass, _) = with_two_passes(rt.alloc())?;
     let mut host = HurryingHost { now: 0 };
     let mut client = Keeper {
         ran: Vec::new(rt.alloc()),
@@ -376,92 +289,6 @@ fn each_phase_reads_the_clock_and_a_late_commit_moves_the_time_on(
     let framed = c.do_frame(&rt, &mut pass, &mut host, &mut client);
     assert!(rt; framed == Framed::Done);
     assert!(rt; client.ran.as_slice() == [(callback(0, 3, 10, 5), 50_000_000)].as_slice());
-    Ok(())
-}
-
-/// A client that begins a frame for another client in the midst of one, by a pass of its own.
-#[derive(Drop)]
-struct Hasty<'a, R: Wait> {
-    rt: &'a R,
-    pass: FramePass,
-    relay: Relay<'a, R>,
-    framed: Vec<Framed>,
-}
-
-impl<'a, R: Wait> FrameClient<StillHost> for Hasty<'a, R> {
-    ghost Serves = { λ l c. IsPassOf l.pass c × IsPassOf l.relay.pass c × (2 < c.constants.phases) × (c.constants.pulses ≡ None) };
-
-    ghost Origin = { ℕ };
-
-    ghost origin = { λ l. 0 };
-
-    ghost ran = { λ l. None };
-
-    ghost Meets = { λ l h. IsTrue true };
-
-    #[tactic(auto, using(choreographer::proofs::Pulsing::any_begins))]
-    fn run(
-        &mut self,
-        c: &Choreographer,
-        host: &mut StillHost,
-        callback: &Callback,
-        time: u64,
-    ) -> ClientRan {
-        let framed = c.do_frame(self.rt, &mut self.pass, host, &mut self.relay);
-        if self.framed.push(framed).is_err() {
-            return ClientRan::NoMemory;
-        }
-        ClientRan::Done
-    }
-
-    ghost stays = { λ l h now k reads meets. meets };
-}
-
-#[test]
-#[tactic(auto, using(choreographer::proofs::Pulsing::any_begins))]
-fn no_frame_begins_in_a_frame(rt: HostRuntime) -> Result<(), Fail> {
-    let (c, mut pass, other, last) = three(rt.alloc(), 10_000_000)?;
-    let mut host = still(rt.alloc(), 20_000_000);
-    let relay = Relay {
-        rt: &rt,
-        pass: last,
-        ran: Vec::new(rt.alloc()),
-    };
-    let mut client = Hasty {
-        rt: &rt,
-        pass: other,
-        relay,
-        framed: Vec::new(rt.alloc()),
-    };
-    let placed = c.post_callback(&rt, &mut pass, &mut host, 1, 5, None, 0);
-    assert!(rt; placed == Placed::Asked);
-    let framed = c.do_frame(&rt, &mut pass, &mut host, &mut client);
-    assert!(rt; framed == Framed::Done);
-    assert!(rt; client.framed.as_slice() == [Framed::Elsewhere { next: 2 }].as_slice());
-    Ok(())
-}
-
-#[test]
-fn a_pulse_is_delivered_once(rt: HostRuntime) -> Result<(), Fail> {
-    let (c, mut pass, _, _) = three(rt.alloc(), 10_000_000)?;
-    let mut host = still(rt.alloc(), 25_000_000);
-    let asked = c.asked(&rt, &mut pass);
-    let pulse = pulse_now(&rt, &c, &mut pass, &mut host);
-    assert!(rt; asked.is_none() && pulse.is_none());
-    let placed = c.post_callback(&rt, &mut pass, &mut host, 1, 5, None, 0);
-    let asked = c.asked(&rt, &mut pass);
-    assert!(rt; placed == Placed::Asked && asked == Some(30_000_000));
-    host.now = 30_000_000;
-    let pulse = pulse_now(&rt, &c, &mut pass, &mut host);
-    let delivered = Pulse {
-        stamp: 30_000_000,
-        sent: HostSent::Accepted,
-    };
-    assert!(rt; pulse == Some(delivered));
-    let again = pulse_now(&rt, &c, &mut pass, &mut host);
-    assert!(rt;
-        again.is_none() && host.sent.as_slice() == [taken(FRAME_MESSAGE, 0, 30)].as_slice()
-    );
     Ok(())
 }
 
@@ -510,29 +337,9 @@ fn pulse_and_frame<R: Wait>(
     Some((pulse.stamp, framed))
 }
 
-/// The moments of a posting and of the look for a pulse behind it, and what these answer.
-#[derive(Drop)]
-struct Look {
-    posted: u64,
-    looked: u64,
-    placed: Placed,
-    pulse: Option<(u64, Framed)>,
-}
-
-/// A posting and a look at these moments, with these answers.
-const fn look_at(posted: u64, looked: u64, placed: Placed, pulse: Option<(u64, Framed)>) -> Look {
-    Look {
-        posted,
-        looked,
-        placed,
-        pulse,
-    }
-}
-
-/// A pulse with this stamp, whose frame ran.
-const fn done(stamp: u64) -> Option<(u64, Framed)> {
-    Some((stamp, Framed::Done))
-}
+/// The moments of a posting and of the look for a pulse behind it; what the posting answers, and the stamp of the pulse that came, with
+/// how its frame went.
+type Look = (u64, u64, Placed, Option<(u64, Framed)>);
 
 // One pass posts, and behind that the pass that alone delivers pulses looks for one, at the moments of each row.
 fn look_at_each<R: Wait + Abort>(
@@ -548,15 +355,12 @@ fn look_at_each<R: Wait + Abort>(
 {
     let mut host = still(*client.ran.allocator(), 0);
     for row in rows {
-        host.now = row.posted;
-        let placed = c.post_callback(rt, poster, &mut host, 1, row.looked, None, 0);
-        host.now = row.looked;
+        let (posted, looked, wanted, came) = *row;
+        host.now = posted;
+        let placed = c.post_callback(rt, poster, &mut host, 1, looked, None, 0);
+        host.now = looked;
         let pulse = pulse_and_frame(rt, c, pass, &mut host, client);
-        assert!(rt;
-            placed == row.placed && pulse == row.pulse,
-            "at {}",
-            row.looked
-        );
+        assert!(rt; placed == wanted && pulse == came, "at {looked}");
     }
 }
 
@@ -570,12 +374,27 @@ fn each_pulse_has_its_frame_before_the_next_one(rt: HostRuntime) -> Result<(), F
     };
     let back = Some((40_000_000, Framed::Backwards { last: 70_000_000 }));
     let rows = [
-        look_at(25_000_000, 25_000_000, Placed::Asked, None),
-        look_at(26_000_000, 78_000_000, Placed::Already, done(30_000_000)),
-        look_at(31_000_000, 40_000_000, Placed::Asked, back),
-        look_at(45_000_000, 45_000_000, Placed::Already, None),
-        look_at(50_000_000, 80_000_000, Placed::Already, done(50_000_000)),
-        look_at(80_000_000, 95_000_000, Placed::Asked, done(90_000_000)),
+        (25_000_000, 25_000_000, Placed::Asked, None),
+        (
+            26_000_000,
+            78_000_000,
+            Placed::Already,
+            Some((30_000_000, Framed::Done)),
+        ),
+        (31_000_000, 40_000_000, Placed::Asked, back),
+        (45_000_000, 45_000_000, Placed::Already, None),
+        (
+            50_000_000,
+            80_000_000,
+            Placed::Already,
+            Some((50_000_000, Framed::Done)),
+        ),
+        (
+            80_000_000,
+            95_000_000,
+            Placed::Asked,
+            Some((90_000_000, Framed::Done)),
+        ),
     ];
     look_at_each(
         &rt,
@@ -594,21 +413,6 @@ fn each_pulse_has_its_frame_before_the_next_one(rt: HostRuntime) -> Result<(), F
         (callback(5, 1, 80, 95_000_000), 90_000_000),
     ];
     assert!(rt; client.ran.as_slice() == ran.as_slice());
-    Ok(())
-}
-
-#[test]
-fn a_due_callback_schedules_a_frame_once(rt: HostRuntime) -> Result<(), Fail> {
-    let (c, mut pass, _, _) = three(rt.alloc(), 10_000_000)?;
-    let mut host = still(rt.alloc(), 25_000_000);
-    let placed = c.post_callback(&rt, &mut pass, &mut host, 3, 8, None, 15);
-    let early = c.on_due(&rt, &mut pass, &mut host, 3);
-    assert!(rt; placed == Placed::Sent && !early);
-    host.now = 40_000_000;
-    let other = c.on_due(&rt, &mut pass, &mut host, 2);
-    let due = c.on_due(&rt, &mut pass, &mut host, 3);
-    let again = c.on_due(&rt, &mut pass, &mut host, 3);
-    assert!(rt; !other && due && !again);
     Ok(())
 }
 

@@ -6,7 +6,7 @@ ghost use Rattle.handler_post.specs.Ways.{IsReady};
 use handler_post::{Erased, Handler, Quit, Sent, Way};
 use loop_model::NoMemory;
 use message_pool::{Pool, PoolClaim, PoolPass};
-use queue_state::{Nexted, Quitting};
+use queue_state::Nexted;
 use shared_queue::{Poster, SharedQueue};
 use std::alloc::Global;
 use std::sync::Wait;
@@ -80,29 +80,6 @@ fn the_fifty_first_post_has_no_slot(rt: HostRuntime) -> Result<(), Fail> {
     Ok(())
 }
 
-#[test]
-fn a_removed_message_is_no_more(rt: HostRuntime) -> Result<(), Fail> {
-    let mut opened = set_up(rt.alloc())?;
-    let mut way = Way {
-        queue: &opened.queue,
-        poster: &mut opened.poster,
-        pool: &opened.pool,
-        pass: &mut opened.pass,
-    };
-    let sent = HANDLER.send_at(&rt, rt.alloc(), &mut way, 3, 0, Some(9), 5);
-    assert!(rt;
-        sent == Sent::Accepted {
-            number: 0,
-            wake: false
-        }
-    );
-    assert!(rt; HANDLER.has_messages(&rt, &mut way, 3, Some(9)));
-    let erased = HANDLER.remove_messages(&rt, &mut way, 3, None);
-    assert!(rt; erased == Erased::Removed { count: 1 });
-    assert!(rt; !HANDLER.has_messages(&rt, &mut way, 3, None));
-    Ok(())
-}
-
 // How the post of this number is answered where no looper waits.
 fn accepted(number: u64) -> Sent {
     Sent::Accepted {
@@ -113,91 +90,97 @@ fn accepted(number: u64) -> Sent {
 
 #[test]
 fn each_form_is_accepted(rt: HostRuntime) -> Result<(), Fail> {
-    let mut opened = set_up(rt.alloc())?;
+    let alloc = rt.alloc();
+    let mut opened = set_up(alloc)?;
     let mut way = Way {
         queue: &opened.queue,
         poster: &mut opened.poster,
         pool: &opened.pool,
         pass: &mut opened.pass,
     };
-    let sent = HANDLER.send_async_at(&rt, rt.alloc(), &mut way, 1, 2, 3);
-    assert!(rt; sent == accepted(0));
-    let sent = HANDLER.send_delayed(&rt, rt.alloc(), &mut way, 1, 2, None, 3, 4);
-    assert!(rt; sent == accepted(1));
-    let sent = HANDLER.send_front(&rt, rt.alloc(), &mut way, 1, 2, None);
-    assert!(rt; sent == accepted(2));
-    let sent = HANDLER.post_callback(&rt, rt.alloc(), &mut way, 5, 6);
-    assert!(rt; sent == accepted(3));
-    let sent = HANDLER.post_callback_delayed(&rt, rt.alloc(), &mut way, 5, 6, 7);
-    assert!(rt; sent == accepted(4));
-    let erased = HANDLER.remove_callbacks(&rt, &mut way, 5, None);
-    assert!(rt; erased == Erased::Removed { count: 2 });
+    let messages = [
+        HANDLER.send_message(&rt, alloc, &mut way, 1, 2, None, 3),
+        HANDLER.send_async_at(&rt, alloc, &mut way, 1, 2, 3),
+        HANDLER.send_async_delayed(&rt, alloc, &mut way, 1, 2, 3, 4),
+        HANDLER.send_delayed(&rt, alloc, &mut way, 1, 2, None, 3, 4),
+        HANDLER.send_front(&rt, alloc, &mut way, 1, 2, None),
+    ];
+    assert!(rt;
+        messages
+            == [
+                accepted(0),
+                accepted(1),
+                accepted(2),
+                accepted(3),
+                accepted(4)
+            ]
+    );
+    let callbacks = [
+        HANDLER.post_callback(&rt, alloc, &mut way, 5, 6),
+        HANDLER.post_callback_delayed(&rt, alloc, &mut way, 5, 6, 7),
+        HANDLER.post_at_front(&rt, alloc, &mut way, 6),
+    ];
+    assert!(rt; callbacks == [accepted(5), accepted(6), accepted(7)]);
     let erased = HANDLER.remove_all(&rt, &mut way, None);
-    assert!(rt; erased == Erased::Removed { count: 3 });
+    assert!(rt; erased == Erased::Removed { count: 8 });
     Ok(())
 }
 
 #[test]
-fn a_queue_that_quits_refuses(rt: HostRuntime) -> Result<(), Fail> {
-    let mut opened = set_up(rt.alloc())?;
-    let quit = opened.poster.quit(&rt, &opened.queue, false, 0);
-    assert!(rt; matches!(quit, Quitting::Done(_)));
+fn what_is_removed_goes_by_its_object(rt: HostRuntime) -> Result<(), Fail> {
+    let alloc = rt.alloc();
+    let mut opened = set_up(alloc)?;
     let mut way = Way {
         queue: &opened.queue,
         poster: &mut opened.poster,
         pool: &opened.pool,
         pass: &mut opened.pass,
     };
-    let sent = HANDLER.send_at(&rt, rt.alloc(), &mut way, 3, 0, None, 5);
-    assert!(rt; sent == Sent::Refused { place: 0 });
+    let sent = [
+        HANDLER.send_at(&rt, alloc, &mut way, 3, 0, Some(9), 5),
+        HANDLER.post_at_time(&rt, alloc, &mut way, 5, Some(9), 6),
+        HANDLER.post_delayed_with(&rt, alloc, &mut way, 5, Some(8), 6, 1),
+    ];
+    assert!(rt; sent == [accepted(0), accepted(1), accepted(2)]);
+    assert!(rt; HANDLER.has_messages(&rt, &mut way, 3, Some(9)));
+    let erased = [
+        HANDLER.remove_messages(&rt, &mut way, 3, None),
+        HANDLER.remove_callbacks(&rt, &mut way, 5, Some(9)),
+    ];
+    assert!(rt; erased == [Erased::Removed { count: 1 }, Erased::Removed { count: 1 }]);
+    let stand = [
+        HANDLER.has_messages(&rt, &mut way, 3, None),
+        HANDLER.has_callbacks(&rt, &mut way, 5, Some(9)),
+        HANDLER.has_callbacks(&rt, &mut way, 5, Some(8)),
+        HANDLER.has_any(&rt, &mut way, None),
+    ];
+    assert!(rt; stand == [false, false, true, true]);
     Ok(())
 }
 
 #[test]
-fn a_callback_goes_by_its_token(rt: HostRuntime) -> Result<(), Fail> {
-    let mut opened = set_up(rt.alloc())?;
+fn a_barrier_is_removed_once_and_a_quit_is_done_once(rt: HostRuntime) -> Result<(), Fail> {
+    let alloc = rt.alloc();
+    let mut opened = set_up(alloc)?;
     let mut way = Way {
         queue: &opened.queue,
         poster: &mut opened.poster,
         pool: &opened.pool,
         pass: &mut opened.pass,
     };
-    let sent = HANDLER.post_at_time(&rt, rt.alloc(), &mut way, 5, Some(9), 6);
-    assert!(rt; sent == accepted(0));
-    let sent = HANDLER.post_delayed_with(&rt, rt.alloc(), &mut way, 5, Some(8), 6, 1);
-    assert!(rt; sent == accepted(1));
-    let sent = HANDLER.post_at_front(&rt, rt.alloc(), &mut way, 6);
-    assert!(rt; sent == accepted(2));
-    let erased = HANDLER.remove_callbacks(&rt, &mut way, 5, Some(9));
-    assert!(rt; erased == Erased::Removed { count: 1 });
-    assert!(rt; HANDLER.has_callbacks(&rt, &mut way, 5, Some(8)));
-    assert!(rt; !HANDLER.has_callbacks(&rt, &mut way, 5, Some(9)));
-    let sent = HANDLER.send_message(&rt, rt.alloc(), &mut way, 1, 2, None, 3);
-    assert!(rt; sent == accepted(3));
-    let sent = HANDLER.send_async_delayed(&rt, rt.alloc(), &mut way, 1, 2, 3, 4);
-    assert!(rt; sent == accepted(4));
-    assert!(rt; HANDLER.has_any(&rt, &mut way, None));
-    Ok(())
-}
-
-#[test]
-fn a_barrier_is_removed_once(rt: HostRuntime) -> Result<(), Fail> {
-    let mut opened = set_up(rt.alloc())?;
-    let mut way = Way {
-        queue: &opened.queue,
-        poster: &mut opened.poster,
-        pool: &opened.pool,
-        pass: &mut opened.pass,
-    };
-    let token = way.post_barrier(&rt, rt.alloc(), 0)?;
-    assert!(rt; way.remove_barrier(&rt, token)?);
-    assert!(rt; !way.remove_barrier(&rt, token)?);
-    let sent = way.send(&rt, rt.alloc(), &HANDLER.obtain(1, 2));
-    assert!(rt; sent == accepted(0));
-    assert!(rt; way.has(&rt, &HANDLER.messages(1)));
+    let token = way.post_barrier(&rt, alloc, 0)?;
+    let removed = [
+        way.remove_barrier(&rt, token)?,
+        way.remove_barrier(&rt, token)?,
+    ];
+    assert!(rt; removed == [true, false]);
+    let sent = way.send(&rt, alloc, &HANDLER.obtain(1, 2));
+    assert!(rt; sent == accepted(0) && way.has(&rt, &HANDLER.messages(1)));
     let erased = way.remove(&rt, &HANDLER.all());
     assert!(rt; erased == Erased::Removed { count: 1 });
-    assert!(rt; way.quit(&rt, true, 0) == Quit::Done { dropped: 0 });
-    assert!(rt; way.quit(&rt, true, 0) == Quit::AlreadyQuit { place: 5 });
+    let quits = [way.quit(&rt, true, 0), way.quit(&rt, true, 0)];
+    assert!(rt; quits == [Quit::Done { dropped: 0 }, Quit::AlreadyQuit { place: 5 }]);
+    let sent = way.send(&rt, alloc, &HANDLER.obtain(1, 2));
+    assert!(rt; sent == Sent::Refused { place: 5 });
     Ok(())
 }

@@ -8,7 +8,7 @@ use inbox_queue::{
     Admit, Admitter, Inbox, InboxEnd, InboxRan, InboxSender, Parcel, Put, run_inbox,
 };
 use loop_io::{Gate, MeetGate, OpenGate};
-use loop_model::{Call, Entry, NoMemory, Post, Reply};
+use loop_model::{Entry, NoMemory, Post, Reply};
 use std::alloc::Global;
 use std::sync::Wait;
 use std::test::Fail;
@@ -101,7 +101,16 @@ fn worked<R: Threads + Wait + Sync>(rt: &R, alloc: Global) -> Result<Closed, NoM
     close_both(rt, alloc, inbox, admitter, first, second, 1500)
 }
 
-// The first of two senders puts two posts; then the admitter admits so many times.
+// A parcel of the first sender.
+fn parcel(index: u64, what: u32) -> Parcel {
+    Parcel {
+        from: 0,
+        index,
+        post: post(what),
+    }
+}
+
+// The first of two senders puts two posts; then the admitter admits so many times. What came of it.
 fn put_two<R: Wait>(rt: &R, alloc: Global, times: u32) -> Result<([Put; 2], Closed), NoMemory> {
     let (inbox, mut senders, admitter) = Inbox::make(alloc, 2)?;
     let second = pop_last(&inbox, &mut senders, 1);
@@ -114,32 +123,20 @@ fn put_two<R: Wait>(rt: &R, alloc: Global, times: u32) -> Result<([Put; 2], Clos
     Ok((puts, closed))
 }
 
-// A parcel of the first sender.
-fn parcel(index: u64, what: u32) -> Parcel {
-    Parcel {
-        from: 0,
-        index,
-        post: post(what),
-    }
-}
-
 #[test]
-fn all_is_admitted(rt: HostRuntime) -> Result<(), Fail> {
-    let (puts, (admits, end)) = put_two(&rt, rt.alloc(), 3)?;
-    assert!(rt; puts == [Put::Put { index: 0 }, Put::Put { index: 1 }]);
+fn what_is_put_is_admitted_or_left(rt: HostRuntime) -> Result<(), Fail> {
     let both = [parcel(0, 7), parcel(1, 8)];
     let answers = [Admit::Parcel(both[0]), Admit::Parcel(both[1]), Admit::Empty];
-    assert!(rt; admits.as_slice() == answers.as_slice());
-    assert!(rt; end.admitted.as_slice() == both.as_slice() && end.left.len() == 0);
-    Ok(())
-}
-
-#[test]
-fn what_is_not_admitted_is_left(rt: HostRuntime) -> Result<(), Fail> {
-    let (_, (admits, end)) = put_two(&rt, rt.alloc(), 1)?;
-    assert!(rt; admits.as_slice() == [Admit::Parcel(parcel(0, 7))].as_slice());
-    assert!(rt; end.admitted.as_slice() == [parcel(0, 7)].as_slice());
-    assert!(rt; end.left.as_slice() == [parcel(1, 8)].as_slice());
+    let rows: [(u32, &[Admit], &[Parcel], &[Parcel]); 2] = [
+        (3, &answers, &both, &[]),
+        (1, &answers[..1], &both[..1], &both[1..]),
+    ];
+    for (times, answered, admitted, left) in rows {
+        let (puts, (admits, end)) = put_two(&rt, rt.alloc(), times)?;
+        assert!(rt; puts == [Put::Put { index: 0 }, Put::Put { index: 1 }]);
+        assert!(rt; admits.as_slice() == answered && end.admitted.as_slice() == admitted);
+        assert!(rt; end.left.as_slice() == left);
+    }
     Ok(())
 }
 
@@ -152,14 +149,6 @@ fn in_order(parcels: &[Parcel], from: u32) -> bool {
         .all(|(i, parcel)| parcel.index == i as u64)
 }
 
-// How often the admitter was told that all is admitted.
-fn empties(admits: &[Admit]) -> usize {
-    admits
-        .iter()
-        .filter(|answer| **answer == Admit::Empty)
-        .count()
-}
-
 fn count(parcels: &[Parcel], from: u32) -> usize {
     parcels.iter().filter(|parcel| parcel.from == from).count()
 }
@@ -168,8 +157,7 @@ fn count(parcels: &[Parcel], from: u32) -> usize {
 fn two_senders_put_side_by_side(rt: HostRuntime) -> Result<(), Fail> {
     let (admits, end) = worked(&rt, rt.alloc())?;
     let admitted = end.admitted.as_slice();
-    assert!(rt; empties(admits.as_slice()) == 500);
-    assert!(rt; admitted.len() == 1000 && end.left.len() == 0);
+    assert!(rt; admits.len() == 1500 && admitted.len() == 1000 && end.left.len() == 0);
     assert!(rt; count(admitted, 0) == 500 && count(admitted, 1) == 500);
     assert!(rt; in_order(admitted, 0) && in_order(admitted, 1));
     Ok(())
@@ -195,59 +183,11 @@ fn ran<R: Threads + Wait + Sync, G: Gate + Sync>(
     }
 }
 
-// The `what` of the posts, in the order of their entries.
-fn posted(alloc: Global, entries: &[Entry]) -> Result<Vec<u32>, Fail> {
-    let mut whats = Vec::new(alloc);
-    for entry in entries {
-        if let Call::Post(post) = entry.call {
-            whats.push(post.what)?;
-        }
-    }
-    Ok(whats)
-}
-
 fn dispatched(entries: &[Entry]) -> usize {
     entries
         .iter()
         .filter(|entry| matches!(entry.reply, Reply::Dispatched { .. }))
         .count()
-}
-
-// Whether the posts come in one of the three orders that keep each thread's own.
-fn is_lawful(whats: &[u32]) -> bool {
-    whats == [1, 2, 3].as_slice() || whats == [1, 3, 2].as_slice() || whats == [3, 1, 2].as_slice()
-}
-
-#[test]
-fn each_order_that_keeps_a_threads_own_is_lawful(rt: HostRuntime) -> Result<(), Fail> {
-    assert!(rt; is_lawful([1, 2, 3].as_slice()));
-    assert!(rt; is_lawful([1, 3, 2].as_slice()));
-    assert!(rt; is_lawful([3, 1, 2].as_slice()));
-    assert!(rt; !is_lawful([2, 1, 3].as_slice()));
-    assert!(rt; !is_lawful([3, 2, 1].as_slice()));
-    assert!(rt; !is_lawful([1, 2].as_slice()));
-    Ok(())
-}
-
-#[test]
-fn the_threads_posts_come_in_each_threads_order(rt: HostRuntime) -> Result<(), Fail> {
-    let Some(InboxRan::Ok(report)) = ran(&rt, rt.alloc(), TWO_THREADS, &OpenGate) else {
-        panic!(rt; "the script runs")
-    };
-    let [part] = report.kept.segments.as_slice() else {
-        panic!(rt; "the history has one part")
-    };
-    let entries = part.entries.as_slice();
-    let whats = posted(rt.alloc(), entries)?;
-    assert!(rt; is_lawful(whats.as_slice()));
-    assert!(rt; dispatched(entries) == 3);
-    assert!(rt; entries.len() == 8);
-    let [block] = report.admitted.as_slice() else {
-        panic!(rt; "there is one block")
-    };
-    assert!(rt; count(block.as_slice(), 0) == 2);
-    assert!(rt; count(block.as_slice(), 1) == 1);
-    Ok(())
 }
 
 #[test]

@@ -1,4 +1,4 @@
-//! A looper over a dispatcher that records its calls, and over one whose queue keeps no record.
+//! A looper over a dispatcher that records its calls.
 ghost use Rattle.std.specs.Prelude.{◌≡◌, ℕ, IfOk, IsTrue, Option, Some, None, true, false, [], ◌∷◌, ◌++◌};
 ghost use Rattle.std.specs.List.{filter_map};
 ghost use Rattle.loop_model.specs.Items.{is_barrier};
@@ -17,10 +17,9 @@ use looper_run::{ByClock, Did, Dispatcher, Loop, Looper, Own, Round, Sources};
 use message_list::new_node;
 use message_pool::{Pool, PoolClaim, PoolNode};
 use message_slot::Message;
-use queue_state::{Kept, Posted, Quitting, Recorder, Unkept};
+use queue_state::{Kept, Posted, Quitting};
 use shared_queue::{Poster, SharedQueue};
 use std::alloc::Global;
-use std::process::Abort;
 use std::sync::{Mutex, Wait};
 use std::test::Fail;
 
@@ -155,14 +154,14 @@ impl Dispatcher for Noter {
 
 // A queue of two senders, the second of which is the looper.
 #[derive(Drop)]
-struct Opened<E: Recorder = Kept> {
-    queue: SharedQueue<PoolClaim, E>,
-    poster: Poster<PoolClaim, E>,
+struct Opened {
+    queue: SharedQueue<PoolClaim>,
+    poster: Poster<PoolClaim>,
     pool: Pool,
-    looper: Looper<E>,
+    looper: Looper,
 }
 
-fn set_up<E: Recorder>(alloc: Global) -> Result<Opened<E>, NoMemory>
+fn set_up(alloc: Global) -> Result<Opened, NoMemory>
     ensures { IfOk result (λ o. IsOf o.poster o.queue × IsAt o.queue o.pool o.looper.held × (o.looper.ended ≡ false)
         × (o.queue.constants.setting.lockstep ≡ false)) }
 {
@@ -179,8 +178,11 @@ fn set_up<E: Recorder>(alloc: Global) -> Result<Opened<E>, NoMemory>
     })
 }
 
-fn plain(what: u32, callback: Option<u64>, when: u64) -> Post {
-    Post {
+fn message(alloc: Global, what: u32, callback: Option<u64>, when: u64) -> Result<PoolNode, NoMemory>
+    ensures { IfOk result (λ m. (is_barrier m.item ≡ false) × (m.claim ≡ None)) }
+{
+    let mut message = Message::blank();
+    message.set_post(&Post {
         handler: 0,
         what,
         arg: 0,
@@ -189,14 +191,7 @@ fn plain(what: u32, callback: Option<u64>, when: u64) -> Post {
         when,
         asynchronous: false,
         slot: None,
-    }
-}
-
-fn message(alloc: Global, what: u32, callback: Option<u64>, when: u64) -> Result<PoolNode, NoMemory>
-    ensures { IfOk result (λ m. (is_barrier m.item ≡ false) × (m.claim ≡ None)) }
-{
-    let mut message = Message::blank();
-    message.set_post(&plain(what, callback, when));
+    });
     match new_node(alloc, message) {
         Ok(node) => Ok(node),
         Err(_) => Err(NoMemory),
@@ -204,11 +199,11 @@ fn message(alloc: Global, what: u32, callback: Option<u64>, when: u64) -> Result
 }
 
 // Posts a message: its number, and whether a waiting looper has to look again; none where it was not accepted.
-fn post<R: Wait, E: Recorder>(
+fn post<R: Wait>(
     rt: &R,
     alloc: Global,
-    queue: &SharedQueue<PoolClaim, E>,
-    poster: &mut Poster<PoolClaim, E>,
+    queue: &SharedQueue<PoolClaim>,
+    poster: &mut Poster<PoolClaim>,
     what: u32,
     callback: Option<u64>,
     when: u64,
@@ -226,14 +221,6 @@ fn post<R: Wait, E: Recorder>(
     }
 }
 
-// How many messages the first quit dropped.
-fn dropped(quit: &Quitting<PoolClaim>) -> Option<usize> {
-    match quit {
-        Quitting::Done(list) => Some(list.len()),
-        _ => None,
-    }
-}
-
 fn nothing_watched(alloc: Global) -> Mutex<Sources> {
     Mutex::new(Sources {
         idle: IdleSet::empty(alloc),
@@ -244,7 +231,7 @@ fn nothing_watched(alloc: Global) -> Mutex<Sources> {
 #[test]
 fn each_message_goes_its_way_once(rt: HostRuntime) -> Result<(), Fail> {
     let alloc = rt.alloc();
-    let mut o: Opened = set_up(alloc)?;
+    let mut o = set_up(alloc)?;
     assert!(rt; post(&rt, alloc, &o.queue, &mut o.poster, 1, None, 5) == Some((0, false)));
     assert!(rt; post(&rt, alloc, &o.queue, &mut o.poster, 7, Some(9), 5) == Some((1, false)));
     assert!(rt; post(&rt, alloc, &o.queue, &mut o.poster, 2, None, 5) == Some((2, false)));
@@ -315,7 +302,7 @@ fn each_message_goes_its_way_once(rt: HostRuntime) -> Result<(), Fail> {
 #[test]
 fn idle_handlers_run_once_between_messages(rt: HostRuntime) -> Result<(), Fail> {
     let alloc = rt.alloc();
-    let mut o: Opened = set_up(alloc)?;
+    let mut o = set_up(alloc)?;
     let sources = nothing_watched(alloc);
     assert!(rt; sources.lock(&rt).idle.add(3, true) == Ok(0));
     assert!(rt; sources.lock(&rt).idle.add(4, false) == Ok(1));
@@ -365,7 +352,7 @@ fn idle_handlers_run_once_between_messages(rt: HostRuntime) -> Result<(), Fail> 
 #[test]
 fn listeners_answer_what_is_watched(rt: HostRuntime) -> Result<(), Fail> {
     let alloc = rt.alloc();
-    let mut o: Opened = set_up(alloc)?;
+    let mut o = set_up(alloc)?;
     let sources = nothing_watched(alloc);
     sources.lock(&rt).fds.set(5, 1, 2)?;
     sources.lock(&rt).fds.set(6, 1, 0)?;
@@ -423,27 +410,6 @@ fn listeners_answer_what_is_watched(rt: HostRuntime) -> Result<(), Fail> {
     Ok(())
 }
 
-#[test]
-fn a_quit_ends_the_looper(rt: HostRuntime) -> Result<(), Fail> {
-    let alloc = rt.alloc();
-    let mut o: Opened = set_up(alloc)?;
-    assert!(rt; post(&rt, alloc, &o.queue, &mut o.poster, 1, None, 5) == Some((0, false)));
-    assert!(rt; post(&rt, alloc, &o.queue, &mut o.poster, 1, None, 20) == Some((1, false)));
-    let quit = o.poster.quit(&rt, &o.queue, true, 5);
-    assert!(rt; dropped(&quit) == Some(1));
-    o.looper.hear(&o.queue, &mut o.poster);
-    o.looper.tell(&o.queue, &mut o.poster);
-    let sources = nothing_watched(alloc);
-    let mut d = Noter {
-        calls: Vec::new(alloc),
-    };
-    let round = o
-        .looper
-        .run_round(&rt, &o.queue, &o.pool, &sources, &mut d, 9);
-    assert!(rt; round == Round::Ended { dispatched: 1 });
-    Ok(())
-}
-
 // What a message whose `what` is 1 makes: two calls and an act.
 fn intercept(now: u64, told: usize) -> Noted {
     Noted::Intercept { what: 1, now, told }
@@ -461,7 +427,7 @@ fn handled(number: u64, now: u64) -> Act {
 #[test]
 fn a_loop_waits_by_a_clock(rt: HostRuntime) -> Result<(), Fail> {
     let alloc = rt.alloc();
-    let mut o: Opened = set_up(alloc)?;
+    let mut o = set_up(alloc)?;
     assert!(rt; post(&rt, alloc, &o.queue, &mut o.poster, 1, None, 5) == Some((0, false)));
     assert!(rt; post(&rt, alloc, &o.queue, &mut o.poster, 1, None, 8) == Some((1, false)));
     let sources = nothing_watched(alloc);
@@ -499,99 +465,12 @@ fn a_loop_waits_by_a_clock(rt: HostRuntime) -> Result<(), Fail> {
         .run_loop(&rt, &o.queue, &o.pool, &sources, &mut d, &by);
     assert!(rt; how == Loop::Nudged);
     let quit = o.poster.quit(&rt, &o.queue, true, 5);
-    assert!(rt; dropped(&quit) == Some(0));
+    assert!(rt; matches!(quit, Quitting::Done(_)));
     let how = o
         .looper
         .run_loop(&rt, &o.queue, &o.pool, &sources, &mut d, &by);
     assert!(rt; how == Loop::Ended);
     let (_, _, journal) = o.looper.into_parts();
     assert!(rt; journal.acts.as_slice() == [handled(0, 5), handled(1, 8)].as_slice());
-    Ok(())
-}
-
-/// It takes every message, of a queue whose entries are not kept.
-#[derive(Drop)]
-struct Taker {
-    handled: u32,
-}
-
-impl Dispatcher for Taker {
-    type Record = Unkept;
-
-    type Value = ();
-
-    ghost Serves = { λ d w. IsTrue true };
-
-    ghost Origin = { ℕ };
-
-    ghost origin = { λ d. 0 };
-
-    ghost nudges = { λ d. 0 };
-
-    ghost asked = { λ d. None };
-
-    ghost Meets = { λ d s es acts. IsTrue true };
-
-    ghost Awaits = { λ d awaited. IsTrue true };
-
-    fn before(&mut self, number: u64, m: &mut Message<PoolClaim>) {}
-
-    fn pulse(&mut self, own: &mut Own<Unkept>, now: u64) -> Did {
-        Did::Yes
-    }
-
-    fn listen(&mut self, fd: u32, events: u32, listener: u32) -> Option<u32> {
-        Some(0)
-    }
-
-    fn idle(&mut self, id: u32, keep: bool) -> Option<bool> {
-        Some(keep)
-    }
-
-    fn run_callback(
-        &mut self,
-        own: &mut Own<Unkept>,
-        id: u64,
-        m: &Message<PoolClaim>,
-        now: u64,
-    ) -> Did {
-        Did::Yes
-    }
-
-    fn intercept(&mut self, own: &mut Own<Unkept>, m: &Message<PoolClaim>, now: u64) -> Did {
-        Did::No
-    }
-
-    fn handle(&mut self, own: &mut Own<Unkept>, m: &Message<PoolClaim>, now: u64) -> Did {
-        self.handled = self.handled.saturating_add(1);
-        Did::Yes
-    }
-
-    ghost others = { λ d s es e acts apart meets. meets };
-
-    ghost disposal = { λ d s es e now acts own call reply meets. meets };
-
-    ghost quiet = { λ d s es a acts is meets. meets };
-}
-
-#[test]
-fn a_looper_needs_no_record(rt: HostRuntime) -> Result<(), Fail> {
-    let alloc = rt.alloc();
-    let mut o: Opened<Unkept> = set_up(alloc)?;
-    assert!(rt; post(&rt, alloc, &o.queue, &mut o.poster, 1, None, 5) == Some((0, false)));
-    assert!(rt; post(&rt, alloc, &o.queue, &mut o.poster, 1, None, 20) == Some((1, false)));
-    let sources = nothing_watched(alloc);
-    let mut d = Taker { handled: 0 };
-    let round = o
-        .looper
-        .run_round(&rt, &o.queue, &o.pool, &sources, &mut d, 9);
-    let drained = Round::Drained {
-        dispatched: 1,
-        until: Some(20),
-    };
-    assert!(rt; round == drained && d.handled == 1);
-    o.looper.drop_acts(alloc);
-    let (_, _, journal) = o.looper.into_parts();
-    assert!(rt; journal.acts.len() == 0);
     Ok(())
 }

@@ -1,6 +1,0 @@
-use Rattle.std.proofs.Common.{refl}
-use Rattle.looper_run.proofs.Keeping.{lent_nothing}
-use Rattle.loop_tests.proofs.loopers.TakerDispatcher.run_callback.Goals as goal
-
-pub returns-clause-keeps : goal.returns-clause-keeps
-returns-clause-keeps c = lent_nothing _ _ _ _ _ _ c.args.own.now (λ w h. h) refl refl refl
