@@ -1,9 +1,6 @@
 //! The program: it makes the real objects, hands them to the top call, and ends with its answer.
 #![tactic(auto)]
 
-#[cfg(test)]
-mod tests;
-
 use dashboard_cli::{Status, dashboard, status_text};
 use loop_io::{OpenGate, StdClock, StdSink, StdSource};
 use std::process::ExitCode;
