@@ -10,6 +10,7 @@ pub mod LooperKits
 pub mod LooperSeats
 pub mod LooperSteps
 pub mod LooperStands
+pub mod FirstPulses
 pub mod LooperPlaying
 pub mod LooperAsks
 pub mod LooperPlayed

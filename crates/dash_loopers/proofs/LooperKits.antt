@@ -107,7 +107,7 @@ serves_now s hall l parts is_hall is e = record { looper = looper_of s hall l is
 
 -- it is the looper with other parts that are its own
 pub looper_with : (s : Script) (hall : Hall) (l : StageLooper) (parts : Parts) → ArePartsOf s hall l.number parts → IsLooper s hall l
-    → IsLooper s hall (record { number = l.number; sender = l.sender; looper = l.looper; parts = Some parts; last = l.last })
+    → IsLooper s hall (record { number = l.number; sender = l.sender; looper = l.looper; parts = Some parts; last = l.last; dispatched = l.dispatched })
 looper_with s hall l parts are is = record {
   few = is.few;
   number = is.number;
@@ -130,11 +130,11 @@ parts_left s hall now began l o parts parts' is_hall is e origin serves =
     (subst (λ (x : Owner). ServesAt x.script x.hall x.number parts' (workplace l.looper.held)) origin (serves (workplace l.looper.held) (serves_now s hall l parts is_hall is e))).are_parts
 
 -- what a round leaves is still the looper
-pub looper_then : (s : Script) (hall : Hall) (now : ℕ) (l : StageLooper) (q : Shared TableId) (parts' : Parts) (after : Looping) (last : Round) → IsHall s hall → IsLooper s hall l
+pub looper_then : (s : Script) (hall : Hall) (now : ℕ) (l : StageLooper) (d : ℕ) (q : Shared TableId) (parts' : Parts) (after : Looping) (last : Round) → IsHall s hall → IsLooper s hall l
     → slice_get hall.queues.items l.number ≡ Some q → ArePartsOf s hall l.number parts'
     → IsSameLooper l.looper.held after.held → after.ended ≡ is_ended last → RoundBy q.constants.setting now l.looper.held after.held last → IsRound any_heard now l.looper after last → is_ended l.last ≡ false → is_given_up l.last ≡ false
-    → IsLooper s hall (record { number = l.number; sender = l.sender; looper = after; parts = Some parts'; last = last })
-looper_then s hall now l q parts' after last is_hall is at are same ended round looks unended going =
+    → IsLooper s hall (record { number = l.number; sender = l.sender; looper = after; parts = Some parts'; last = last; dispatched = d })
+looper_then s hall now l d q parts' after last is_hall is at are same ended round looks unended going =
     let of = looper_of s hall l is_hall is in
     record {
       few = is.few;
@@ -180,7 +180,7 @@ pub looper_begins : (s : Script) (hall : Hall) (n : ℕ) (kit : Kit) (parts : Pa
     → poster ≡ get_or kit.posters.items n poster → parts.others.items ≡ remove kit.posters.items n
     → parts.frames ≡ get_or kit.frames.items 0 parts.frames → parts.root.pass ≡ get_or (remove kit.frames.items 0) 0 parts.root.pass
     → looping.held ≡ record { poster = poster; pass = kit.pass; journal = record { looper = n; acts = [] } } → looping.ended ≡ is_ended last → is_ended last ≡ false → parts.awaits ≡ false
-    → IsLooper s hall (record { number = n; sender = s.threads + n; looper = looping; parts = Some parts; last = last })
+    → IsLooper s hall (record { number = n; sender = s.threads + n; looper = looping; parts = Some parts; last = last; dispatched = 0 })
 looper_begins s hall n kit parts looping poster last l k unused is others frames client held ended going unawaited =
     let at : slice_get kit.posters.items n ≡ Some poster = slice_get_read kit.posters.items (length kit.posters.items) n poster refl (kit_many s hall n l kit k) is in
     let mine : (q : Shared TableId) → slice_get hall.queues.items n ≡ Some q → badge_of poster ≡ badge_for (s.threads + n) q = λ q at'. at_same badge_of (badge_for (s.threads + n)) kit.posters.items hall.queues.items n poster q k.posters at at' in

@@ -106,7 +106,7 @@ module _ (shows : ℕ → Bool) (start : ℕ) (s : Script) (hall : Hall) (l : St
       looped_by_round now shown leaves meets =
           let set = q.constants.setting in
           let left : RoundLeaves set now l.looper after last = subst (λ (z : StageLooper). RoundLeaves set now z.looper after last) taken leaves in
-          looped_there (looped (looper_then s hall now l q parts after last is_hall is at are left.same left.ended left.round left.looks going.0 going.1) left.same.sender
+          looped_there (looped (looper_then s hall now l l.dispatched q parts after last is_hall is at are left.same left.ended left.round left.looks going.0 going.1) left.same.sender
           (λ on. plays_here (meets on))
           (λ on. (let w = round_worked set now l.looper.held after.held last on left.round in (w.more, w.seen, looks_by shows start set l.looper.held.poster.sender now shown l.looper.held.poster.view.seen w.more w.looks)))
           (λ on. (let w = round_worked set now l.looper.held after.held last on left.round in record { seen = (w.more, sym w.seen); acts = (w.did, sym w.acts) })))

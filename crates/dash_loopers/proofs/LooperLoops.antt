@@ -156,7 +156,7 @@ ends_same loop.NoMemory = refl
 pub looper_by_loop : (shows : ℕ → Bool) (start : ℕ) (cap : Option ℕ) (called : ℕ → List Listening → List Listening → Type 0) (s : Script) (hall : Hall) (l : StageLooper) (q : Shared TableId) (parts' : Parts) (after : Looping) (how : Loop)
     → IsHall s hall → IsLooper s hall l → slice_get hall.queues.items l.number ≡ Some q → ArePartsOf s hall l.number parts'
     → IsStill l.looper.held after.held → after.ended ≡ ends how → LoopBy shows start cap q.constants.setting l.looper.held after.held how → IsLoop called shows start cap l.looper after how → is_ended l.last ≡ false → is_given_up l.last ≡ false
-    → IsLooper s hall (record { number = l.number; sender = l.sender; looper = after; parts = Some parts'; last = round_of how })
+    → IsLooper s hall (record { number = l.number; sender = l.sender; looper = after; parts = Some parts'; last = round_of how; dispatched = l.dispatched })
 looper_by_loop shows start cap called s hall l q parts' after how is_hall is at are still ended loops steps unended going =
     let of = looper_of s hall l is_hall is in
     let same : workplace l.looper.held ≡ workplace after.held = λ i. record { table = sym still.table i; constants = sym still.constants i; pool = sym still.home i } in
@@ -196,7 +196,7 @@ worked shows start cap s before after loop.NoMemory going l = absurd cc
 -- as a loop or a round by a clock ends
 pub played_by : (s : Script) (l : StageLooper) (parts' : Parts) (after : Looping) (last : Round) → after.held.poster.sender ≡ l.sender
     → (is_given_up last ≡ false → IsPlayingBy s l.number l after.held.poster.sender after.held.poster.view.seen after.held.journal.acts parts')
-    → HasPlayedBy s l (record { number = l.number; sender = l.sender; looper = after; parts = Some parts'; last = last })
+    → HasPlayedBy s l (record { number = l.number; sender = l.sender; looper = after; parts = Some parts'; last = last; dispatched = l.dispatched })
 played_by s l parts' after last mine plays = λ going text did a come.
     subst (λ (k : ℕ). ComesBy s l.number k after.held.poster.view.seen after.held.journal.acts parts') mine (plays going text did a come)
 

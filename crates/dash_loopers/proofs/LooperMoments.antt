@@ -273,7 +273,7 @@ by_clock_of m n xs ys p p' le others own had k d near =
 -- the looper's posters, as a loop leaves them
 pub stays_by_clock : (m : Mode) (l : StageLooper) (after : Looping) (parts' : Parts) (last : Round) → l.number ≤ length (others_in l.parts) → (is_given_up last ≡ false → AreUntimed (others_in l.parts) parts'.others.items)
     → (is_given_up last ≡ false → IsByClock m l.looper.held.poster → IsByClock m after.held.poster)
-    → StaysByClock m l (record { number = l.number; sender = l.sender; looper = after; parts = Some parts'; last = last })
+    → StaysByClock m l (record { number = l.number; sender = l.sender; looper = after; parts = Some parts'; last = last; dispatched = l.dispatched })
 stays_by_clock m l after parts' last le others own = λ going had. by_clock_of m l.number (others_in l.parts) parts'.others.items l.looper.held.poster after.held.poster le (others going) (own going) had
 
 -- ---- a loop, as it begins and ends

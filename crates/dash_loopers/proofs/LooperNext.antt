@@ -31,7 +31,7 @@ use Rattle.dash_loopers.proofs.LooperKits.{parts_of, others_many, looper_of, loo
 
 -- it is the looper still
 pub looper_asked : (s : Script) (hall : Hall) (l : StageLooper) (parts : Parts) (g : Pass) (r : Option ℕ) → IsLooper s hall l → l.parts ≡ Some parts → AskedBy parts.frames g r
-    → IsLooper s hall (record { number = l.number; sender = l.sender; looper = l.looper; parts = Some (record parts { frames = g }); last = l.last })
+    → IsLooper s hall (record { number = l.number; sender = l.sender; looper = l.looper; parts = Some (record parts { frames = g }); last = l.last; dispatched = l.dispatched })
 looper_asked s hall l parts g r is e asked =
     let are = parts_of s hall l parts is e in
     let badge = frame_turn_badge _ _ _ _ asked.1 in
@@ -39,7 +39,7 @@ looper_asked s hall l parts g r is e asked =
 
 -- and stands where it stood
 pub played_asked : (s : Script) (l : StageLooper) (parts : Parts) (g : Pass) (r : Option ℕ) → l.parts ≡ Some parts → AskedBy parts.frames g r
-    → HasPlayedBy s l (record { number = l.number; sender = l.sender; looper = l.looper; parts = Some (record parts { frames = g }); last = l.last })
+    → HasPlayedBy s l (record { number = l.number; sender = l.sender; looper = l.looper; parts = Some (record parts { frames = g }); last = l.last; dispatched = l.dispatched })
 played_asked s l parts g r e asked = λ going text did a come. record {
   did = did;
   state = a;

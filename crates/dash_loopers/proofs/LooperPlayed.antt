@@ -21,7 +21,7 @@ use Rattle.looper_run.specs.Round.{UnlessWanting}
 use Rattle.looper_run.specs.Tests.{Passes, IsSameLooper}
 use Rattle.choreographer.specs.Known.{Pass}
 use Rattle.run_model.specs.Planned.{entries_by, AreFor, sender_count}
-use Rattle.run_model.specs.Loopers.{LooperState, first_looper, ActsLead, IsSent, pulse_stamp, has_frames}
+use Rattle.run_model.specs.Loopers.{LooperState, first_looper, ActsLead, IsSent, pulse_stamp, has_frames, pulses_come_first}
 use Rattle.run_model.specs.Parts.{sent_on, asks_to_run}
 use Rattle.dash_hall.specs.declared.hall.Hall.{Hall}
 use Rattle.dash_hall.specs.declared.kit.Kit.{Kit}
@@ -102,7 +102,7 @@ stands_free s q k es acts parts a st = record {
 }
 
 pub comes_free : (s : Script) (l : StageLooper) (a : LooperState) → StandsBetweenRounds s l a → StandsBetweenLoops s l a a
-comes_free s l a come = (alike_self a, from l.parts come)
+comes_free s l a come = (alike_self a, from l.parts come.0)
   where
     from : (o : Option Parts) → IsSomeAnd o (λ parts. Stands s l.number l.sender l.looper.held.poster.view.seen l.looper.held.journal.acts parts a)
         → IsSomeAnd o (λ parts. StandsBy false s l.number l.sender l.looper.held.poster.view.seen l.looper.held.journal.acts parts a a)
@@ -117,23 +117,23 @@ unless (Ended dispatched) P going h = h
 unless NoMemory P going h = absurd cc
 
 -- as a round ends
-pub played_round : (s : Script) (hall : Hall) (now : ℕ) (l began : StageLooper) (o : Owner) (parts' : Parts) (after : Looping) (last : Round) → began ≡ l → l.looper.held.poster.sender ≡ l.sender
+pub played_round : (s : Script) (hall : Hall) (now : ℕ) (l began : StageLooper) (o : Owner) (d : ℕ) (parts' : Parts) (after : Looping) (last : Round) → began ≡ l → l.looper.held.poster.sender ≡ l.sender
     → o ≡ record { script = s; hall = hall; number = l.number; now = now; began = began } → IsSameLooper l.looper.held after.held
-    → (is_given_up last ≡ false → Passes (λ k es acts. IsPlaying o.script o.number o.now o.began k es acts parts') after.held)
-    → HasPlayed s now l (record { number = l.number; sender = l.sender; looper = after; parts = Some parts'; last = last })
-played_round s hall now l began o parts' after last same mine origin kept meets = λ going text a come.
-    let here : IsPlaying s l.number now began after.held.poster.sender after.held.poster.view.seen after.held.journal.acts parts' =
-    subst (λ (x : Owner). IsPlaying x.script x.number x.now x.began after.held.poster.sender after.held.poster.view.seen after.held.journal.acts parts') origin (meets going) in
-    let from : IsPlaying s l.number now l after.held.poster.sender after.held.poster.view.seen after.held.journal.acts parts' =
-    subst (λ (b : StageLooper). IsPlaying s l.number now b after.held.poster.sender after.held.poster.view.seen after.held.journal.acts parts') same here in
-    subst (λ (k : ℕ). ComesTo s l.number now a k l.looper.held.poster.view.seen after.held.poster.view.seen after.held.journal.acts parts') (kept.sender ∙ mine) (from text a come)
+    → (is_given_up last ≡ false → Passes (λ k es acts. IsPlaying o.script o.number o.now o.began d k es acts parts') after.held)
+    → HasPlayed s now l (record { number = l.number; sender = l.sender; looper = after; parts = Some parts'; last = last; dispatched = d })
+played_round s hall now l began o d parts' after last same mine origin kept meets = λ going text a come.
+    let here : IsPlaying s l.number now began d after.held.poster.sender after.held.poster.view.seen after.held.journal.acts parts' =
+    subst (λ (x : Owner). IsPlaying x.script x.number x.now x.began d after.held.poster.sender after.held.poster.view.seen after.held.journal.acts parts') origin (meets going) in
+    let from : IsPlaying s l.number now l d after.held.poster.sender after.held.poster.view.seen after.held.journal.acts parts' =
+    subst (λ (b : StageLooper). IsPlaying s l.number now b d after.held.poster.sender after.held.poster.view.seen after.held.journal.acts parts') same here in
+    subst (λ (k : ℕ). ComesTo s l.number now a d k l.looper.held.poster.view.seen after.held.poster.view.seen after.held.journal.acts parts') (kept.sender ∙ mine) (from text a come)
 
 -- and with parts that are the same unless memory ran out
-pub played_left : (s : Script) (now : ℕ) (l : StageLooper) (after : Looping) (last : Round) (p q : Parts) → (is_given_up last ≡ false → q ≡ p)
-    → HasPlayed s now l (record { number = l.number; sender = l.sender; looper = after; parts = Some p; last = last })
-    → HasPlayed s now l (record { number = l.number; sender = l.sender; looper = after; parts = Some q; last = last })
-played_left s now l after last p q same h = λ going.
-    subst (λ (z : Parts). HasPlayed s now l (record { number = l.number; sender = l.sender; looper = after; parts = Some z; last = last })) (sym (same going)) h going
+pub played_left : (s : Script) (now : ℕ) (l : StageLooper) (d : ℕ) (after : Looping) (last : Round) (p q : Parts) → (is_given_up last ≡ false → q ≡ p)
+    → HasPlayed s now l (record { number = l.number; sender = l.sender; looper = after; parts = Some p; last = last; dispatched = d })
+    → HasPlayed s now l (record { number = l.number; sender = l.sender; looper = after; parts = Some q; last = last; dispatched = d })
+played_left s now l d after last p q same h = λ going.
+    subst (λ (z : Parts). HasPlayed s now l (record { number = l.number; sender = l.sender; looper = after; parts = Some z; last = last; dispatched = d })) (sym (same going)) h going
 
 -- ---- at its end
 
@@ -150,6 +150,7 @@ left_by s hall l parts j kit is_hall is e posters frames journal a come = record
   pulses = λ d sound.
       subst (λ (x : Journal). has_frames x.acts a ≡ true) (sym journal)
       (eq-eqb _ _ (st.in_time refl (subst (λ (x : Sender). IsSoundOn s l.number x.view.seen) (mine d) sound)).pulses);
+  pulses_first = subst (λ (x : Journal). pulses_come_first x.acts ≡ true) (sym journal) come.1.first;
   whole = λ p fs begins law. st.whole fs (subst (λ (ps : List Pass). IsPrefix (slice_index_or ps 0 p).view.seen fs) frames begins) law;
   settled = st.settled;
   calls = λ d. subst (λ (x : Sender). AreFor IsSent [] (sent_on l.number a.sent) (calls_of x)) (sym (mine d))
@@ -165,7 +166,7 @@ left_by s hall l parts j kit is_hall is e posters frames journal a come = record
 }
   where
     st : Stands s l.number l.sender l.looper.held.poster.view.seen l.looper.held.journal.acts parts a
-    st = subst (λ (o : Option Parts). IsSomeAnd o (λ ps. Stands s l.number l.sender l.looper.held.poster.view.seen l.looper.held.journal.acts ps a)) e come
+    st = subst (λ (o : Option Parts). IsSomeAnd o (λ ps. Stands s l.number l.sender l.looper.held.poster.view.seen l.looper.held.journal.acts ps a)) e come.0
 
     many : l.number ≤ length parts.others.items
     many = others_many s hall l.number (looper_of s hall l is_hall is) parts (parts_of s hall l parts is e)

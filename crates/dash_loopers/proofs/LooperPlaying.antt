@@ -1,7 +1,7 @@
 -- In a round a looper goes on from where it stood: what keeps that it has, and what a round leaves of it.
 use Rattle.choreographer.proofs.Quiet.{grows_self}
 use Rattle.dash_loopers.proofs.LatestPulses.{still_in_time}
-use Rattle.std.proofs.Common.{◌≡◌, ℕ, true, false, List, [], ◌∷◌, ◌++◌, Option, Some, None, refl, sym, ap, ◌∙◌, subst, arith, append_assoc}
+use Rattle.std.proofs.Common.{◌≡◌, ℕ, ◌<◌, ◌≤◌, ◌⊎◌, inl, inr, max, true, false, List, [], ◌∷◌, ◌++◌, Option, Some, None, refl, sym, ap, ◌∙◌, subst, arith, append_assoc}
 use Rattle.std.specs.Prelude.{◌==◌, Bool, Result, Ok, Err, is_ok, OnOk, is_some, not, ◌&&◌}
 use Rattle.std.specs.List.{AllByRecursion, Contains}
 use Rattle.std.specs.Option.{IsSomeAnd}
@@ -30,9 +30,12 @@ use Rattle.run_model.specs.Loopers.{LooperState, SentCall, after_dispatch, start
 use Rattle.dash_hall.specs.Hosts.{pass_asks}
 use Rattle.dash_loopers.specs.declared.player.Parts.{Parts}
 use Rattle.dash_loopers.specs.declared.looper.StageLooper.{StageLooper}
-use Rattle.dash_loopers.specs.Played.{calls_in, calls_of, IsPlayed, Delivers, looper_pulsed, PulsesThen, ComesThen, Stands, IsTimedBy, HasLookedAt, IsAskedDueAt, IsPostedBy, GoesOnTo, ComesTo, IsPlaying, HasPlayed}
+use Rattle.dash_loopers.specs.Played.{calls_in, calls_of, IsPlayed, Delivers, looper_pulsed, Stands, IsTimedBy, HasLookedAt, IsAskedDueAt, IsPostedBy, GoesOnTo, ComesTo, IsPlaying, HasPlayed}
 use Rattle.dash_loopers.specs.PlayingLaws.{goes_nowhere, comes_on}
-use Rattle.dash_loopers.proofs.LooperStands.{stands_pulse, by_dispatch, sends_dispatch, posts_dispatch, frames_dispatch, stands_dispatch}
+use Rattle.dash_loopers.specs.PulsesFirst.{TellsPulsesFirst}
+use Rattle.dash_loopers.proofs.PulsesOnTime.{ComesThen, PulsesThen}
+use Rattle.dash_loopers.proofs.FirstPulses.{first_pulsed, first_dispatched}
+use Rattle.dash_loopers.proofs.LooperStands.{stands_pulse, by_dispatch, told_dispatch, sends_dispatch, posts_dispatch, frames_dispatch, stands_dispatch}
 use Rattle.dash_loopers.proofs.PlaySteps.{waits_still}
 use Rattle.std.proofs.Math.Bool.{and-false}
 use Rattle.run_model.specs.Planned.{frame_handler}
@@ -80,44 +83,47 @@ goes_looked q k looks now time e a b among sender call m p r = record {
 
 module _ (s : Script) (q now : ℕ) (began : StageLooper) where
   -- a pulse was delivered now and told, or none came
-  pulsed_on : (k k' : ℕ) (es es' more : List Entry) (acts acts' : List Act) (parts parts' : Parts) → k' ≡ k → es' ≡ es ++ more → PulsesThen s q now (calls_in k es) (calls_in k' es') parts parts' acts acts'
-      → IsPlaying s q now began k es acts parts → IsPlaying s q now began k' es' acts' parts'
-  pulsed_on k k' es es' more acts acts' parts parts' same saw p meets =
+  pulsed_on : (d k k' : ℕ) (es es' more : List Entry) (acts acts' : List Act) (parts parts' : Parts) → (d < now) ⊎ (acts' ≡ acts) → k' ≡ k → es' ≡ es ++ more → PulsesThen s q now (calls_in k es) (calls_in k' es') parts parts' acts acts'
+      → IsPlaying s q now began d k es acts parts → IsPlaying s q now began d k' es' acts' parts'
+  pulsed_on d k k' es es' more acts acts' parts parts' early same saw p meets =
       let at : PulsesThen s q now (calls_in k es) (calls_in k (es ++ more)) parts parts' acts acts' = subst (λ l. PulsesThen s q now (calls_in k es) l parts parts' acts acts') (λ i. calls_in (same i) (saw i)) p in
       let here = at.0 in
-      subst (λ (n : ℕ). IsPlaying s q now began n es' acts' parts') (sym same) (subst (λ (l : List Entry). IsPlaying s q now began k l acts' parts') (sym saw) (λ text a come.
+      subst (λ (n : ℕ). IsPlaying s q now began d n es' acts' parts') (sym same) (subst (λ (l : List Entry). IsPlaying s q now began d k l acts' parts') (sym saw) (λ text a come.
       (let c = meets text a come in
-      comes_on s q now a k began.looper.held.poster.view.seen es more acts acts' parts parts' c (looper_pulsed q here.stamp c.state) (stands_pulse s q k now es more acts acts' parts parts' c.state c.state text here c.stands) (goes_pulsed k q more now here.stamp c.state (at.1 c.stands.latest_is.key c.stands.latest_is.constants c.stands.latest_is.alone)))))
+      let comes = at.1 c.stands.latest_is.key c.stands.latest_is.constants c.stands.latest_is.alone in
+      comes_on s q now a d d k began.looper.held.poster.view.seen es more acts acts' parts parts' c (looper_pulsed q here.stamp c.state) (first_pulsed d now here.stamp acts acts' early here.told comes c.first) (stands_pulse s q k now es more acts acts' parts parts' c.state c.state text here c.stands) (goes_pulsed k q more now here.stamp c.state comes))))
 
-  pub playing_pulse : (before after : Holding) (parts parts' : Parts) → IsLent before after → PulsesThen s q now (calls_of before.poster) (calls_of after.poster) parts parts' before.journal.acts after.journal.acts
-      → Passes (λ k es acts. IsPlaying s q now began k es acts parts) before → Passes (λ k es acts. IsPlaying s q now began k es acts parts') after
-  playing_pulse before after parts parts' lent p meets =
-      pulsed_on before.poster.sender after.poster.sender before.poster.view.seen after.poster.view.seen lent.more before.journal.acts after.journal.acts parts parts' lent.same.sender lent.seen p meets
+  pub playing_pulse : (d : ℕ) (before after : Holding) (parts parts' : Parts) → (d < now) ⊎ (after.journal.acts ≡ before.journal.acts) → IsLent before after → PulsesThen s q now (calls_of before.poster) (calls_of after.poster) parts parts' before.journal.acts after.journal.acts
+      → Passes (λ k es acts. IsPlaying s q now began d k es acts parts) before → Passes (λ k es acts. IsPlaying s q now began d k es acts parts') after
+  playing_pulse d before after parts parts' early lent p meets =
+      pulsed_on d before.poster.sender after.poster.sender before.poster.view.seen after.poster.view.seen lent.more before.journal.acts after.journal.acts parts parts' early lent.same.sender lent.seen p meets
 
   -- a message that was taken is dispatched
-  dispatched_on : (k k' n time : ℕ) (m : PostData) (past es es' more : List Entry) (e : Entry) (acts acts' : List Act) (route : Route) (parts parts' : Parts) → k' ≡ k → es ≡ past ++ e ∷ [] → es' ≡ es ++ more
+  dispatched_on : (kept kept' k k' n time : ℕ) (m : PostData) (past es es' more : List Entry) (e : Entry) (acts acts' : List Act) (route : Route) (parts parts' : Parts) → kept ≤ kept' → time ≤ kept' → k' ≡ k → es ≡ past ++ e ∷ [] → es' ≡ es ++ more
       → IsTake k time n e → post_at past n ≡ Some m → Delivers s q time (λ x. x == nanos_of time) m (calls_in k es) (calls_in k' es') parts parts' acts acts'
-      → IsPlaying s q now began k past acts parts → IsPlaying s q now began k' es' (acts' ++ Dispatch n time route ∷ []) parts'
-  dispatched_on k k' n time m past es es' more e acts acts' route parts parts' same seen saw take post d meets =
+      → IsPlaying s q now began kept k past acts parts → IsPlaying s q now began kept' k' es' (acts' ++ Dispatch n time route ∷ []) parts'
+  dispatched_on kept kept' k k' n time m past es es' more e acts acts' route parts parts' rises within same seen saw take post d meets =
       let whole : es' ≡ (past ++ e ∷ []) ++ more = saw ∙ ap (λ (l : List Entry). l ++ more) seen in
       let here : Delivers s q time (λ x. x == nanos_of time) m (calls_in k (past ++ e ∷ [])) (calls_in k ((past ++ e ∷ []) ++ more)) parts parts' acts acts' =
       subst (λ l. Delivers s q time (λ x. x == nanos_of time) m l (calls_in k ((past ++ e ∷ []) ++ more)) parts parts' acts acts') (ap (calls_in k) seen) (subst (λ l. Delivers s q time (λ x. x == nanos_of time) m (calls_in k es) l parts parts' acts acts') (λ i. calls_in (same i) (whole i)) d) in
-      subst (λ (j : ℕ). IsPlaying s q now began j es' (acts' ++ Dispatch n time route ∷ []) parts') (sym same)
-      (subst (λ (l : List Entry). IsPlaying s q now began k l (acts' ++ Dispatch n time route ∷ []) parts') (sym (whole ∙ append_assoc past (e ∷ []) more)) (λ text a come.
+      subst (λ (j : ℕ). IsPlaying s q now began kept' j es' (acts' ++ Dispatch n time route ∷ []) parts') (sym same)
+      (subst (λ (l : List Entry). IsPlaying s q now began kept' k l (acts' ++ Dispatch n time route ∷ []) parts') (sym (whole ∙ append_assoc past (e ∷ []) more)) (λ text a come.
       (let c = meets text a come in
-      comes_on s q now a k began.looper.held.poster.view.seen past (e ∷ more) acts (acts' ++ Dispatch n time route ∷ []) parts parts' c (by_dispatch s q k n time time (λ x. x == nanos_of time) m past more e take acts acts' parts parts' here c.state c.state)
+      let done = told_dispatch s q k n time time (λ x. x == nanos_of time) m past more e take acts acts' parts parts' here c.state c.state text c.stands.settled c.stands in
+      comes_on s q now a kept kept' k began.looper.held.poster.view.seen past (e ∷ more) acts (acts' ++ Dispatch n time route ∷ []) parts parts' c (by_dispatch s q k n time time (λ x. x == nanos_of time) m past more e take acts acts' parts parts' here c.state c.state)
+      (first_dispatched kept kept' n time route acts acts' done.0 rises within done.1 done.2 c.first)
       (subst (λ (l : List Entry). Stands s q k l (acts' ++ Dispatch n time route ∷ []) parts' (by_dispatch s q k n time time (λ x. x == nanos_of time) m past more e take acts acts' parts parts' here c.state c.state)) (append_assoc past (e ∷ []) more)
       (stands_dispatch s q k n time time (λ x. x == nanos_of time) m past more e take acts acts' parts parts' here c.state c.state route (λ is. (refl, refl)) text post c.stands.settled refl c.stands))
       (goes_looked q k (e ∷ more) now time e c.state _ (Contains-append_left (e ∷ []) more e (Contains-push [] e)) take.sender_is take.call (sends_dispatch s q k n time time (λ x. x == nanos_of time) m past more e take acts acts' parts parts' here c.state c.state)
       (posts_dispatch s q k n time time (λ x. x == nanos_of time) m past more e take acts acts' parts parts' here c.state c.state)
       (frames_dispatch s q k n time time (λ x. x == nanos_of time) m past more e take acts acts' parts parts' here c.state c.state)))))
 
-  pub playing_dispatch : (time : ℕ) (node : Node) (route : Route) (before after : Holding) (parts parts' : Parts) → IsLent before after
-      → HasTakenMessage (λ k es acts. IsPlaying s q now began k es acts parts) before node time
+  pub playing_dispatch : (kept kept' time : ℕ) (node : Node) (route : Route) (before after : Holding) (parts parts' : Parts) → kept ≤ kept' → time ≤ kept' → IsLent before after
+      → HasTakenMessage (λ k es acts. IsPlaying s q now began kept k es acts parts) before node time
       → Delivers s q time (λ x. x == nanos_of time) (post_of node.item) (calls_of before.poster) (calls_of after.poster) parts parts' before.journal.acts after.journal.acts
-      → PassesWith (λ k es acts. IsPlaying s q now began k es acts parts') after node time route
-  playing_dispatch time node route before after parts parts' lent t d =
-      dispatched_on before.poster.sender after.poster.sender (number_in node.item) time (post_of node.item) t.past before.poster.view.seen after.poster.view.seen lent.more t.take before.journal.acts after.journal.acts route parts parts' lent.same.sender t.seen lent.seen t.is_take t.post d t.passes
+      → PassesWith (λ k es acts. IsPlaying s q now began kept' k es acts parts') after node time route
+  playing_dispatch kept kept' time node route before after parts parts' rises within lent t d =
+      dispatched_on kept kept' before.poster.sender after.poster.sender (number_in node.item) time (post_of node.item) t.past before.poster.view.seen after.poster.view.seen lent.more t.take before.journal.acts after.journal.acts route parts parts' rises within lent.same.sender t.seen lent.seen t.is_take t.post d t.passes
 
   -- a message with a callback causes nothing
   pub delivers_none : (time : ℕ) (is_moment : ℕ → Bool) (m : PostData) (id : ℕ) (made : List Entry) (parts : Parts) (acts : List Act) → m.callback ≡ Some id → Delivers s q time is_moment m made made parts parts acts acts
@@ -159,43 +165,43 @@ intercepted NoMemory P Q never h = tt
 
 module _ (s : Script) (q now : ℕ) (began : StageLooper) where
   -- a pulse was delivered, or none came, unless memory ran out
-  pub pulse_or_none : (d : Did) (before after : Holding) (parts parts' : Parts) → IsLent before after → Unless d (PulsesThen s q now (calls_of before.poster) (calls_of after.poster) parts parts' before.journal.acts after.journal.acts)
-      → Passes (λ k es acts. IsPlaying s q now began k es acts parts) before → Unless d (Passes (λ k es acts. IsPlaying s q now began k es acts parts') after)
-  pulse_or_none Yes before after parts parts' lent p meets = playing_pulse s q now began before after parts parts' lent p meets
-  pulse_or_none No before after parts parts' lent p meets = playing_pulse s q now began before after parts parts' lent p meets
-  pulse_or_none NoMemory before after parts parts' lent p meets = tt
+  pub pulse_or_none : (kept : ℕ) (d : Did) (before after : Holding) (parts parts' : Parts) → kept < now → IsLent before after → Unless d (PulsesThen s q now (calls_of before.poster) (calls_of after.poster) parts parts' before.journal.acts after.journal.acts)
+      → Passes (λ k es acts. IsPlaying s q now began kept k es acts parts) before → Unless d (Passes (λ k es acts. IsPlaying s q now began kept k es acts parts') after)
+  pulse_or_none kept Yes before after parts parts' early lent p meets = playing_pulse s q now began kept before after parts parts' (inl early) lent p meets
+  pulse_or_none kept No before after parts parts' early lent p meets = playing_pulse s q now began kept before after parts parts' (inl early) lent p meets
+  pulse_or_none kept NoMemory before after parts parts' early lent p meets = tt
 
   -- a message was dispatched, unless memory ran out
-  pub dispatches_well : {A E : Type 0} (time : ℕ) (node : Node) (route : Route) (m : PostData) (r : Result A E) (d : Did) (before after : Holding) (parts parts' : Parts) → m ≡ post_of node.item → IsLent before after
-      → HasTakenMessage (λ k es acts. IsPlaying s q now began k es acts parts) before node time
+  pub dispatches_well : {A E : Type 0} (kept kept' time : ℕ) (node : Node) (route : Route) (m : PostData) (r : Result A E) (d : Did) (before after : Holding) (parts parts' : Parts) → kept' ≡ max kept time → m ≡ post_of node.item → IsLent before after
+      → HasTakenMessage (λ k es acts. IsPlaying s q now began kept k es acts parts) before node time
       → OnOk r (Delivers s q time (λ x. x == nanos_of time) m (calls_of before.poster) (calls_of after.poster) parts parts' before.journal.acts after.journal.acts)
       → (d ≡ No → ⊥) → (d ≡ Yes → is_ok r ≡ true)
-      → Unless d (PassesWith (λ k es acts. IsPlaying s q now began k es acts parts') after node time route)
-  dispatches_well time node route m r d before after parts parts' is lent t done never well = did_well r d _ never well (by_end r done)
+      → Unless d (PassesWith (λ k es acts. IsPlaying s q now began kept' k es acts parts') after node time route)
+  dispatches_well kept kept' time node route m r d before after parts parts' rises is lent t done never well = did_well r d _ never well (by_end r done)
     where
-      by_end : {A E : Type 0} (r : Result A E) → OnOk r (Delivers s q time (λ x. x == nanos_of time) m (calls_of before.poster) (calls_of after.poster) parts parts' before.journal.acts after.journal.acts) → OnOk r (PassesWith (λ k es acts. IsPlaying s q now began k es acts parts') after node time route)
-      by_end (Ok x) h = playing_dispatch s q now began time node route before after parts parts' lent t (subst (λ (p : PostData). Delivers s q time (λ x. x == nanos_of time) p (calls_of before.poster) (calls_of after.poster) parts parts' before.journal.acts after.journal.acts) is h)
+      by_end : {A E : Type 0} (r : Result A E) → OnOk r (Delivers s q time (λ x. x == nanos_of time) m (calls_of before.poster) (calls_of after.poster) parts parts' before.journal.acts after.journal.acts) → OnOk r (PassesWith (λ k es acts. IsPlaying s q now began kept' k es acts parts') after node time route)
+      by_end (Ok x) h = playing_dispatch s q now began kept kept' time node route before after parts parts' (omega (arith, rises)) (omega (arith, rises)) lent t (subst (λ (p : PostData). Delivers s q time (λ x. x == nanos_of time) p (calls_of before.poster) (calls_of after.poster) parts parts' before.journal.acts after.journal.acts) is h)
       by_end (Err e) h = tt
 
 -- ---- who begins, and who does nothing
 
 -- a looper goes on nowhere from where it stands
-comes_nowhere : (s : Script) (q now k : ℕ) (es : List Entry) (acts : List Act) (parts : Parts) (a : LooperState) → Stands s q k es acts parts a → ComesTo s q now a k es es acts parts
-comes_nowhere s q now k es acts parts a stands = record { state = a; stands = stands; looks = []; saw = sym (append-nil es); on = goes_nowhere q k [] now a }
+comes_nowhere : (s : Script) (q now d k : ℕ) (es : List Entry) (acts : List Act) (parts : Parts) (a : LooperState) → Stands s q k es acts parts a → TellsPulsesFirst d acts → ComesTo s q now a d k es es acts parts
+comes_nowhere s q now d k es acts parts a stands first = record { state = a; stands = stands; looks = []; saw = sym (append-nil es); on = goes_nowhere q k [] now a; first = first }
 
 -- one that did nothing has played
 pub plays_nothing : (s : Script) (now : ℕ) (l : StageLooper) → HasPlayed s now l l
-plays_nothing s now l going text a come = by_parts l.parts come
+plays_nothing s now l going text a come = by_parts l.parts come.0
   where
     by_parts : (o : Option Parts) → IsSomeAnd o (λ p. Stands s l.number l.sender l.looper.held.poster.view.seen l.looper.held.journal.acts p a)
-        → IsSomeAnd o (ComesTo s l.number now a l.sender l.looper.held.poster.view.seen l.looper.held.poster.view.seen l.looper.held.journal.acts)
+        → IsSomeAnd o (ComesTo s l.number now a l.dispatched l.sender l.looper.held.poster.view.seen l.looper.held.poster.view.seen l.looper.held.journal.acts)
     by_parts None h = absurd h
-    by_parts (Some p) h = comes_nowhere s l.number now l.sender l.looper.held.poster.view.seen l.looper.held.journal.acts p a h
+    by_parts (Some p) h = comes_nowhere s l.number now l.dispatched l.sender l.looper.held.poster.view.seen l.looper.held.journal.acts p a h come.1
 
 -- as a round begins it plays
 pub plays_first : (s : Script) (now k : ℕ) (began l : StageLooper) (parts : Parts) → began ≡ l → k ≡ l.sender → l.parts ≡ Some parts
-    → IsPlaying s l.number now began k l.looper.held.poster.view.seen l.looper.held.journal.acts parts
-plays_first s now k began l parts is mine has = subst (λ (b : StageLooper). IsPlaying s l.number now b k l.looper.held.poster.view.seen l.looper.held.journal.acts parts) (sym is)
-    (subst (λ (n : ℕ). IsPlaying s l.number now l n l.looper.held.poster.view.seen l.looper.held.journal.acts parts) (sym mine)
-    (λ text a come. comes_nowhere s l.number now l.sender l.looper.held.poster.view.seen l.looper.held.journal.acts parts a
-    (subst (λ (o : Option Parts). IsSomeAnd o (λ p. Stands s l.number l.sender l.looper.held.poster.view.seen l.looper.held.journal.acts p a)) has come)))
+    → IsPlaying s l.number now began l.dispatched k l.looper.held.poster.view.seen l.looper.held.journal.acts parts
+plays_first s now k began l parts is mine has = subst (λ (b : StageLooper). IsPlaying s l.number now b l.dispatched k l.looper.held.poster.view.seen l.looper.held.journal.acts parts) (sym is)
+    (subst (λ (n : ℕ). IsPlaying s l.number now l l.dispatched n l.looper.held.poster.view.seen l.looper.held.journal.acts parts) (sym mine)
+    (λ text a come. comes_nowhere s l.number now l.dispatched l.sender l.looper.held.poster.view.seen l.looper.held.journal.acts parts a
+    (subst (λ (o : Option Parts). IsSomeAnd o (λ p. Stands s l.number l.sender l.looper.held.poster.view.seen l.looper.held.journal.acts p a)) has come.0) come.1))

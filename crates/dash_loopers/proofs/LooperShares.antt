@@ -49,11 +49,12 @@ looper_then R S T h x y z f g = record {
   };
   rest = may_then (rest_in x.parts) (rest_in y.parts) (rest_in z.parts) f.rest g.rest;
   last = g.last ∙ f.last;
+  dispatched = g.dispatched ∙ f.dispatched;
 }
 
 -- a looper as it is
 pub looper_self : (R : List Sender → List Sender → Type 0) → ((a : List Sender) → R a a) → (x : StageLooper) → LooperKeeps R x x
-looper_self R h x = record { number = refl; posters = h (posters_of x); sender = refl; beside = record { pass = refl; journal = refl; idle_owed = refl; ended = refl }; rest = may_self (rest_in x.parts); last = refl }
+looper_self R h x = record { number = refl; posters = h (posters_of x); sender = refl; beside = record { pass = refl; journal = refl; idle_owed = refl; ended = refl }; rest = may_self (rest_in x.parts); last = refl; dispatched = refl }
 
 -- what follows from it for the posters
 pub looper_weaker : (R S : List Sender → List Sender → Type 0) → ((a b : List Sender) → R a b → S a b) → (x y : StageLooper) → LooperKeeps R x y → LooperKeeps S x y
@@ -64,6 +65,7 @@ looper_weaker R S h x y f = record {
   beside = f.beside;
   rest = f.rest;
   last = f.last;
+  dispatched = f.dispatched;
 }
 
 -- what holds of one of two facts holds of one of three

@@ -282,6 +282,15 @@ module _ (s : Script) (q k n now u : ℕ) (is_moment : ℕ → Bool) (m : PostDa
       by_frame None is = ([], is ∙ sym (append-nil a.frames), tt)
       by_frame (Some place) is = (record { place = place; now = now } ∷ [], is, (refl, tt))
 
+  -- what it painted is told
+  pub told_dispatch : {lockstep : Bool} → HasText s → did.painted ≡ [] → StandsBy lockstep s q k es acts parts did a
+      → (painted : List Act) × (acts' ≡ acts ++ painted) × ArePaints painted
+  told_dispatch text still st = (
+    (after_dispatch s q u d.ids m (taken q n now u d.ran.frame m did)).painted,
+    (d.plays text (taken q n now u d.ran.frame m did) refl (played_taken s q k n now u es e take m parts did still d.ran.frame st.played)).1,
+    adds_read.paints tt,
+  )
+
   pub stands_dispatch : {lockstep : Bool} (route : Route) → (lockstep ≡ true → (is_moment ≡ (λ n. n == nanos_of u)) × (u ≡ now)) → HasText s → post_at es n ≡ Some m → did.painted ≡ [] → (after_dispatch s q u d.ids m (taken q n now u d.ran.frame m did)).painted ≡ (after_dispatch s q now d.ids m (taken q n now now d.ran.frame m a)).painted
       → StandsBy lockstep s q k es acts parts did a → StandsBy lockstep s q k ((es ++ e ∷ []) ++ more) (acts' ++ Dispatch n now route ∷ []) parts' by_reading by_dispatch
   stands_dispatch {lockstep} route at text post still alike st = record {

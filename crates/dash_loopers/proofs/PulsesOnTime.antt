@@ -20,10 +20,20 @@ use Rattle.run_model.specs.FrameRecords.{millis_up, asks_in}
 use Rattle.dash_loopers.specs.declared.player.Parts.{Parts}
 use Rattle.dash_hall.proofs.Badges.{frame_turn_badge}
 use Rattle.dash_loopers.specs.Players.{AreSameParts}
-use Rattle.dash_loopers.specs.Played.{ComesAsAsked, ComesThen, PulsesThen}
+use Rattle.dash_loopers.specs.Played.{ComesAsAsked, Pulses}
 use Rattle.dash_loopers.proofs.FrameIds.{turn_grew}
 use Rattle.dash_loopers.proofs.LatestPulses.{turn_keeps_latest, turn_may_await}
 use Rattle.dash_loopers.proofs.PlaySteps.{played_with}
+
+-- a pulse came at its millisecond, rounded up, if one came
+abbrev pub ComesThen : ℕ → Option ℕ → Type 0
+ComesThen now None = Unit {0}
+ComesThen now (Some stamp) = millis_up stamp ≡ now
+
+-- so it did in lockstep, where the pass alone delivers pulses
+abbrev pub PulsesThen : Script → ℕ → ℕ → List Entry → List Entry → Parts → Parts → List Act → List Act → Type 0
+PulsesThen s q now made made' parts parts' acts acts' =
+    (p : Pulses s q now made made' parts parts' acts acts') × IfAlone parts.frames (ComesThen now p.stamp)
 
 -- the pulse that is asked for is delivered, or none is
 one_asked : (asked : Option ℕ) (now stamp : ℕ) → delivered asked now ≡ Some stamp → option_map_or (λ (p : ℕ). p) asked 0 ≡ stamp

@@ -1,5 +1,6 @@
 pub mod Loopers
 pub mod Players
+pub mod PulsesFirst
 pub mod Played
 pub mod Places
 pub mod PlayingLaws

@@ -45,7 +45,7 @@ pub record HasLooped (m : Mode) (s : Script) (hall : Hall) (before after : Stage
 
 -- the looper with these parts, behind a round that ended so
 abbrev pub looper_with_parts : StageLooper → Round → Parts → StageLooper
-looper_with_parts l last parts = record { number = l.number; sender = l.sender; looper = l.looper; parts = Some parts; last = last }
+looper_with_parts l last parts = record l { parts = Some parts; last = last }
 
 -- whose code a loop runs which begins with this looper
 abbrev pub owner_of : Mode → Script → Hall → StageLooper → ClockOwner

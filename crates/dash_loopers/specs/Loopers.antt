@@ -196,6 +196,7 @@ pub record LooperKeeps (R : List Sender → List Sender → Type 0) (before afte
   pub beside : IsBeside before.looper after.looper
   pub rest : MayHaveHeard (rest_in before.parts) (rest_in after.parts)
   pub last : after.last ≡ before.last
+  pub dispatched : after.dispatched ≡ before.dispatched
 
 -- this holds of the looper's two passes of its choreographer
 abbrev pub OfItsPasses : (Pass → Type 0) → StageLooper → Type 0

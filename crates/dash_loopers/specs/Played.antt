@@ -35,7 +35,7 @@ use Rattle.run_model.specs.Planned.{Makes, AreFor, entries_by, looper_of, frame_
 use Rattle.run_model.specs.AskedSoFar.{tokens_in}
 use Rattle.run_model.specs.Control.{Timing, At, InBlock, Exactly, AnyTime}
 use Rattle.run_model.specs.Loopers.{LooperState, SentCall, first_looper, starts_frame, after_dispatch, fires, reaction, ActsLead, IsSent, pulse_stamp}
-use Rattle.run_model.specs.Loopers.{has_frames, GaugeState}
+use Rattle.run_model.specs.Loopers.{has_frames, pulses_come_first, GaugeState}
 use Rattle.run_model.specs.Parts.{sent_on, asks_to_run}
 use Rattle.run_model.specs.FrameRecords.{millis_up, FrameAt, frame_ids, is_frame_from, has_stamp, frame_moments, place_after, are_run_then, are_whole}
 use Rattle.run_model.specs.FrameRecords.{FrameAsk, Posts, Removes, Runs, as_told}
@@ -49,6 +49,7 @@ use Rattle.dash_loopers.specs.declared.looper.StageLooper.{StageLooper}
 use Rattle.dash_hall.specs.Growth.{own}
 use Rattle.dash_hall.specs.Hosts.{pass_asks}
 use Rattle.dash_loopers.specs.Players.{PlaceWithout}
+use Rattle.dash_loopers.specs.PulsesFirst.{TellsPulsesFirst}
 use Rattle.dash_loopers.specs.Loopers.{is_given_up, calls_among, IsSoundOn}
 pub use Rattle.dash_loopers.specs.Loopers.{is_disposal}
 
@@ -190,11 +191,6 @@ ComesLater before came = (stamp : ℕ) (awaits : Bool) → HasLatest before stam
 abbrev pub ComesAsAsked : Pass → Option ℕ → Type 0
 ComesAsAsked before came = IfAlone before ((stamp : ℕ) → came ≡ Some stamp → before.view.asks ≢ 0 → stamp ≡ before.view.asks)
 
--- it came at its millisecond, rounded up
-abbrev pub ComesThen : ℕ → Option ℕ → Type 0
-ComesThen now None = Unit {0}
-ComesThen now (Some stamp) = millis_up stamp ≡ now
-
 -- no moment of what the pass has seen is later than this one
 abbrev pub HasSeenUpTo : ℕ → Pass → Type 0
 HasSeenUpTo t p = has_later t p.view.seen ≡ false
@@ -304,11 +300,6 @@ pub record Pulses (s : Script) (q now : ℕ) (made made' : List Entry) (parts pa
   pub asks : pass_asks parts'.frames ≡ pass_asks parts.frames
   pub plays : Plays s q (looper_pulsed q stamp) made parts made' parts'
 
--- the same in lockstep: where the pass alone delivers pulses, the pulse came at its millisecond, if one came
-abbrev pub PulsesThen : Script → ℕ → ℕ → List Entry → List Entry → Parts → Parts → List Act → List Act → Type 0
-PulsesThen s q now made made' parts parts' acts acts' =
-    (p : Pulses s q now made made' parts parts' acts acts') × IfAlone parts.frames (ComesThen now p.stamp)
-
 -- ---- what is told in a mode
 
 -- a call without its timing, and a frame without the time at which it was to start
@@ -394,27 +385,31 @@ pub record GoesOnTo (q sender : ℕ) (looks : List Entry) (now : ℕ) (a b : Loo
   pub frames : b.frames ≡ a.frames ++ ran
   pub ran_then : All (λ x. HasLookedAt sender looks x.now) ran
 
--- where a looper stands between two rounds
+-- where a looper stands between two rounds, and it told no pulse behind a dispatch of its own millisecond
 abbrev pub StandsBetweenRounds : Script → StageLooper → LooperState → Type 0
-StandsBetweenRounds s l a = IsSomeAnd l.parts (λ parts. Stands s l.number l.sender l.looper.held.poster.view.seen l.looper.held.journal.acts parts a)
+StandsBetweenRounds s l a =
+    IsSomeAnd l.parts (λ parts. Stands s l.number l.sender l.looper.held.poster.view.seen l.looper.held.journal.acts parts a)
+    × TellsPulsesFirst l.dispatched l.looper.held.journal.acts
 
--- the looper went on to this state, and has seen these entries more
-pub record ComesTo (s : Script) (q now : ℕ) (a : LooperState) (sender : ℕ) (seen es : List Entry) (acts : List Act) (parts : Parts) : Type 0 where
+-- the looper went on to this state, has seen these entries more, and told no pulse behind a dispatch of its own millisecond, nor a dispatch of a later time
+-- than it keeps
+pub record ComesTo (s : Script) (q now : ℕ) (a : LooperState) (dispatched sender : ℕ) (seen es : List Entry) (acts : List Act) (parts : Parts) : Type 0 where
   pub state : LooperState
   pub stands : Stands s q sender es acts parts state
   pub looks : List Entry
   pub saw : es ≡ seen ++ looks
   pub on : GoesOnTo q sender looks now a state
+  pub first : TellsPulsesFirst dispatched acts
 
 -- in a round at this moment: whatever state the looper stood at when the round began, it has gone on from there
-abbrev pub IsPlaying : Script → ℕ → ℕ → StageLooper → ℕ → List Entry → List Act → Parts → Type 0
-IsPlaying s q now began sender es acts parts =
-    HasText s → (a : LooperState) → StandsBetweenRounds s began a → ComesTo s q now a sender began.looper.held.poster.view.seen es acts parts
+abbrev pub IsPlaying : Script → ℕ → ℕ → StageLooper → ℕ → ℕ → List Entry → List Act → Parts → Type 0
+IsPlaying s q now began dispatched sender es acts parts =
+    HasText s → (a : LooperState) → StandsBetweenRounds s began a → ComesTo s q now a dispatched sender began.looper.held.poster.view.seen es acts parts
 
 -- the same once the round is over, unless memory ran out
 abbrev pub HasPlayed : Script → ℕ → StageLooper → StageLooper → Type 0
 HasPlayed s now before after = is_given_up after.last ≡ false → HasText s → (a : LooperState) → StandsBetweenRounds s before a
-    → IsSomeAnd after.parts (ComesTo s before.number now a before.sender
+    → IsSomeAnd after.parts (ComesTo s before.number now a after.dispatched before.sender
     before.looper.held.poster.view.seen after.looper.held.poster.view.seen after.looper.held.journal.acts)
 
 -- ---- by a clock
@@ -450,6 +445,7 @@ pub record HasLeft (s : Script) (q : ℕ) (j : Journal) (kit : Kit) (a : LooperS
   pub moments : (p : Pass) (fs : List FrameEntry) → IsPrefix (slice_index_or kit.frames.items 0 p).view.seen fs
       → lawful s.period (phase_count s.edition) fs ≡ true → are_run_then fs a.frames ≡ true
   pub pulses : (d : Sender) → IsSoundOn s q (slice_index_or kit.posters.items q d).view.seen → has_frames j.acts a ≡ true
+  pub pulses_first : pulses_come_first j.acts ≡ true
   pub whole : (p : Pass) (fs : List FrameEntry) → IsPrefix (slice_index_or kit.frames.items 0 p).view.seen fs
       → lawful s.period (phase_count s.edition) fs ≡ true → are_whole (phase_count s.edition) fs a.frames ≡ true
   pub settled : a.painted ≡ []

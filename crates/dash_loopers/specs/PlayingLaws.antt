@@ -30,6 +30,7 @@ use Rattle.run_model.proofs.RunLaws.{ActsLead-snoc}
 use Rattle.run_model.proofs.Growth.{ActsLead-entries}
 use Rattle.dash_loopers.specs.declared.player.Parts.{Parts}
 use Rattle.dash_loopers.specs.declared.looper.StageLooper.{StageLooper}
+use Rattle.dash_loopers.specs.PulsesFirst.{TellsPulsesFirst, tells_quiet}
 use Rattle.dash_loopers.specs.Played.{calls_in, IsPlayed, StandsBy, Stands, IsTimedBy, HasLookedAt, IsPostedBy, GoesOnTo, ComesTo, IsPlaying, IsPlayingBy}
 use Rattle.dash_loopers.specs.Played.{HasAllFrames}
 use Rattle.dash_loopers.specs.Loopers.{IsSoundOn, setting_for, is_disposal}
@@ -207,42 +208,43 @@ goes_nowhere q k looks now a = record {
 
 module _ (s : Script) (q now : ℕ) where
   -- one step more
-  pub comes_on : (a : LooperState) (k : ℕ) (seen es looks : List Entry) (acts acts' : List Act) (parts parts' : Parts)
-      (c : ComesTo s q now a k seen es acts parts) (b : LooperState)
-      → Stands s q k (es ++ looks) acts' parts' b → GoesOnTo q k looks now c.state b → ComesTo s q now a k seen (es ++ looks) acts' parts'
-  comes_on a k seen es looks acts acts' parts parts' c b stands on = record {
+  pub comes_on : (a : LooperState) (d d' k : ℕ) (seen es looks : List Entry) (acts acts' : List Act) (parts parts' : Parts)
+      (c : ComesTo s q now a d k seen es acts parts) (b : LooperState) → TellsPulsesFirst d' acts'
+      → Stands s q k (es ++ looks) acts' parts' b → GoesOnTo q k looks now c.state b → ComesTo s q now a d' k seen (es ++ looks) acts' parts'
+  comes_on a d d' k seen es looks acts acts' parts parts' c b first stands on = record {
     state = b;
     stands = stands;
     looks = c.looks ++ looks;
     saw = ap (λ l. l ++ looks) c.saw ∙ append_assoc seen c.looks looks;
     on = goes_then q k c.looks looks now a c.state b c.on on;
+    first = first;
   }
 
   module _ (began : StageLooper) where
     -- another sender's entry
-    pub playing_others : (k : ℕ) (es : List Entry) (e : Entry) (acts : List Act) (parts : Parts) → (e.sender ≡ k → ⊥) → IsPlaying s q now began k es acts parts
-        → IsPlaying s q now began k (es ++ e ∷ []) acts parts
-    playing_others k es e acts parts apart meets = λ text a come.
+    pub playing_others : (d k : ℕ) (es : List Entry) (e : Entry) (acts : List Act) (parts : Parts) → (e.sender ≡ k → ⊥) → IsPlaying s q now began d k es acts parts
+        → IsPlaying s q now began d k (es ++ e ∷ []) acts parts
+    playing_others d k es e acts parts apart meets = λ text a come.
         let c = meets text a come in
-        comes_on a k began.looper.held.poster.view.seen es (e ∷ []) acts acts parts parts c c.state
+        comes_on a d d k began.looper.held.poster.view.seen es (e ∷ []) acts acts parts parts c c.state c.first
         (stands_beside s q k es (e ∷ []) acts parts c.state c.state (calls_others k es e apart) c.stands) (goes_nowhere q k (e ∷ []) now c.state)
 
     -- the looper's look that ends the queue
-    pub playing_disposed : (k : ℕ) (es : List Entry) (e : Entry) (time : ℕ) (acts : List Act) (parts : Parts) → e.sender ≡ k → e.call ≡ Next time
-        → e.reply ≡ Disposed → IsPlaying s q now began k es acts parts
-        → IsPlaying s q now began k (es ++ e ∷ []) acts parts
-    playing_disposed k es e time acts parts mine call reply meets = λ text a come.
+    pub playing_disposed : (d k : ℕ) (es : List Entry) (e : Entry) (time : ℕ) (acts : List Act) (parts : Parts) → e.sender ≡ k → e.call ≡ Next time
+        → e.reply ≡ Disposed → IsPlaying s q now began d k es acts parts
+        → IsPlaying s q now began d k (es ++ e ∷ []) acts parts
+    playing_disposed d k es e time acts parts mine call reply meets = λ text a come.
         let c = meets text a come in
-        comes_on a k began.looper.held.poster.view.seen es (e ∷ []) acts acts parts parts c c.state
+        comes_on a d d k began.looper.held.poster.view.seen es (e ∷ []) acts acts parts parts c c.state c.first
         (stands_beside s q k es (e ∷ []) acts parts c.state c.state (calls_disposed k es e time mine call reply) c.stands)
         (goes_nowhere q k (e ∷ []) now c.state)
 
     -- an idle handler ran, or a listener was told of an event
-    pub playing_quiet : (k : ℕ) (es : List Entry) (x : Act) (acts : List Act) (parts : Parts) → IsQuietAct x → IsPlaying s q now began k es acts parts
-        → IsPlaying s q now began k es (acts ++ x ∷ []) parts
-    playing_quiet k es x acts parts is meets = λ text a come.
+    pub playing_quiet : (d k : ℕ) (es : List Entry) (x : Act) (acts : List Act) (parts : Parts) → IsQuietAct x → IsPlaying s q now began d k es acts parts
+        → IsPlaying s q now began d k es (acts ++ x ∷ []) parts
+    playing_quiet d k es x acts parts is meets = λ text a come.
         let c = meets text a come in
-        record { state = c.state; stands = stands_quiet s q k es x acts parts c.state c.state is c.stands; looks = c.looks; saw = c.saw; on = c.on }
+        record { state = c.state; stands = stands_quiet s q k es x acts parts c.state c.state is c.stands; looks = c.looks; saw = c.saw; on = c.on; first = tells_quiet d acts x is c.first }
 
 -- ---- the laws by a clock
 

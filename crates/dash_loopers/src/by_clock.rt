@@ -1,10 +1,8 @@
 //! A looper that runs by a clock.
 ghost use Rattle.std.specs.Prelude.{◌≡◌, ◌≢◌, ◌+◌, ◌||◌, None, Some, IsSomeAnd, IsTrue, true, false, OnOk};
-ghost use Rattle.std.specs.Option.{option_map};
 ghost use Rattle.loop_io.specs.Moments.{IsMoment};
 ghost use Rattle.looper_run.specs.Holding.{held, IsSameOwn};
 ghost use Rattle.looper_run.specs.Round.{is_ended};
-ghost use Rattle.run_model.specs.FrameRecords.{millis_up};
 ghost use Rattle.run_model.specs.ByClock.{in_free_mode};
 ghost use Rattle.dash_hall.specs.Kits.{IsHall};
 ghost use Rattle.dash_loopers.specs.Loopers.{IsLooper, IsLooperOf, round_of, is_given_up, MayWork, DrainsAt};
@@ -16,9 +14,8 @@ ghost use Rattle.dash_loopers.specs.Looped.{earlier_of, ends_at, LooperAsksPulse
 ghost use Rattle.dash_loopers.specs.ClockedLaws.{playing_at_others, playing_at_disposed, playing_at_quiet};
 ghost use Rattle.looper_run.specs.Tests.{IsLent};
 
-use crate::looper::{StageLooper, close};
+use crate::looper::{StageLooper, close, rounded_up};
 use crate::player::{Parts, Place, did, of_looper};
-use choreographer::NANOS_PER_MILLI;
 use dash_hall::{Hall, Look, Timer, Uptime, frame_handler};
 use dash_script::Script;
 use loop_io::{Clock, Gate};
@@ -393,14 +390,6 @@ fn last_of(how: Loop) -> Round
             until: None,
         },
     }
-}
-
-/// A pulse's stamp in nanoseconds, in milliseconds rounded up.
-pub(crate) fn rounded_up(stamp: Option<u64>) -> Option<u64>
-    ensures { result ≡ option_map millis_up stamp }
-{
-    let nanos = stamp?;
-    Some(nanos.div_ceil(NANOS_PER_MILLI))
 }
 
 /// Whether a loop ended at a moment that is no earlier than the end.

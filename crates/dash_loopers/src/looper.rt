@@ -1,6 +1,8 @@
 //! A looper of a script.
 ghost use Rattle.std.specs.Prelude.{◌≡◌, ◌≢◌, ◌+◌, ◌<◌, true, false, IfOk};
+ghost use Rattle.std.specs.Option.{option_map};
 ghost use Rattle.looper_run.specs.Round.{is_ended};
+ghost use Rattle.run_model.specs.FrameRecords.{millis_up};
 ghost use Rattle.dash_hall.specs.Kits.{IsHall, IsKitOf, IsUnusedKit};
 ghost use Rattle.dash_loopers.specs.Loopers.{ComesToWait, IsLooper, IsLooperOf, ArePartsOf, HasRunInLockstep, is_given_up, until_of, MayWork, IsLooperStill};
 ghost use Rattle.dash_loopers.specs.Players.{AreSameParts, RingsMain};
@@ -9,6 +11,7 @@ ghost use Rattle.dash_loopers.specs.Ends.{IsNewLooper, HandsOutKit, IsToldBy};
 
 use crate::player::{Parts, Place, Player, of_looper};
 use crate::view_root::ViewRoot;
+use choreographer::NANOS_PER_MILLI;
 use dash_hall::{Hall, Kit};
 use dash_script::Script;
 use loop_io::Gate;
@@ -31,6 +34,8 @@ pub struct StageLooper {
     pub parts: Option<Parts>,
     /// How its last round ended.
     pub last: Round,
+    /// The latest time at which it dispatched a message in a round in lockstep, in milliseconds, or 0 before the first one.
+    pub dispatched: u64,
 }
 
 impl StageLooper {
@@ -72,6 +77,7 @@ impl StageLooper {
                 dispatched: 0,
                 until: None,
             },
+            dispatched: 0,
         })
     }
 
@@ -141,6 +147,7 @@ impl StageLooper {
             gate,
             sender: self.sender,
             now,
+            dispatched: self.dispatched,
             began: &began,
             parts,
         };
@@ -152,6 +159,7 @@ impl StageLooper {
             &mut player,
             now,
         );
+        self.dispatched = player.dispatched;
         let mut parts = player.parts;
         close(rt, hall, script, self.number, self.gave_up(), &mut parts);
         self.parts = Some(parts);
@@ -175,6 +183,7 @@ impl StageLooper {
             looper,
             parts,
             last: _,
+            dispatched: _,
         } = self;
         let Some(parts) = parts else { unreachable!() };
         let Parts {
@@ -231,4 +240,12 @@ pub(crate) fn close<R: Wait>(
         return;
     }
     parts.others[0].nudge(rt, &hall.queues[0]);
+}
+
+/// A pulse's stamp in nanoseconds, in milliseconds rounded up.
+pub(crate) fn rounded_up(stamp: Option<u64>) -> Option<u64>
+    ensures { result ≡ option_map millis_up stamp }
+{
+    let nanos = stamp?;
+    Some(nanos.div_ceil(NANOS_PER_MILLI))
 }

@@ -13,8 +13,7 @@ ghost use Rattle.dash_loopers.specs.PlayingLaws.{playing_others, playing_dispose
 ghost use Rattle.dash_loopers.specs.Places.{ServesOn, DeliversOn};
 ghost use Rattle.dash_loopers.specs.Steps.{Leaves};
 
-use crate::by_clock::rounded_up;
-use crate::looper::StageLooper;
+use crate::looper::{StageLooper, rounded_up};
 use crate::view_root::ViewRoot;
 use choreographer::{Choreographer, FramePass};
 use dash_hall::{Hall, Still, Uptime, frame_handler};
@@ -65,6 +64,8 @@ pub(crate) struct Player<'a, R: Wait, G: Gate> {
     pub(crate) sender: u32,
     /// The moment of the round, in milliseconds. A pulse is delivered then.
     pub(crate) now: u64,
+    /// The latest time at which the looper dispatched a message, in milliseconds, or 0 before the first one.
+    pub(crate) dispatched: u64,
     /// The looper as it was when the round began.
     pub(crate) began: &'a Snapshot<StageLooper>,
     pub(crate) parts: Parts,
@@ -87,7 +88,7 @@ impl<'a, R: Wait, G: Gate> Dispatcher for Player<'a, R, G> {
 
     ghost asked = { λ d. None };
 
-    ghost Meets = { λ d s es acts. IsPlaying d.place.script.now d.place.looper d.now d.began.now.value s es acts d.parts };
+    ghost Meets = { λ d s es acts. IsPlaying d.place.script.now d.place.looper d.now d.began.now.value d.dispatched s es acts d.parts };
 
     fn before(&mut self, number: u64, m: &mut Message<PoolClaim>) {
         self.gate.pass(self.sender, self.parts.passed);
@@ -95,6 +96,9 @@ impl<'a, R: Wait, G: Gate> Dispatcher for Player<'a, R, G> {
     }
 
     fn pulse(&mut self, own: &mut Own, now: u64) -> Did {
+        if self.now <= self.dispatched {
+            return Did::No;
+        }
         let choreographer = self.place.choreographer();
         let stamp = choreographer.asked(self.place.rt, &mut self.parts.frames);
         let Some(due) = rounded_up(stamp) else {
@@ -118,6 +122,7 @@ impl<'a, R: Wait, G: Gate> Dispatcher for Player<'a, R, G> {
         if self.place.hall.stop.is_stopped(self.place.rt) {
             return Did::NoMemory;
         }
+        self.dispatched = self.dispatched.max(now);
         Did::Yes
     }
 
@@ -125,6 +130,7 @@ impl<'a, R: Wait, G: Gate> Dispatcher for Player<'a, R, G> {
         if !self.place.intercepts(m) {
             return Did::No;
         }
+        self.dispatched = self.dispatched.max(now);
         did(
             self.place
                 .deliver(&mut self.parts, own, &m.as_post(), now, &Still { now }),
@@ -132,18 +138,19 @@ impl<'a, R: Wait, G: Gate> Dispatcher for Player<'a, R, G> {
     }
 
     fn handle(&mut self, own: &mut Own, m: &Message<PoolClaim>, now: u64) -> Did {
+        self.dispatched = self.dispatched.max(now);
         did(
             self.place
                 .deliver(&mut self.parts, own, &m.as_post(), now, &Still { now }),
         )
     }
 
-    ghost others = { λ d s es e acts apart meets. playing_others d.place.script.now d.place.looper d.now d.began.now.value s es e acts d.parts apart meets };
+    ghost others = { λ d s es e acts apart meets. playing_others d.place.script.now d.place.looper d.now d.began.now.value d.dispatched s es e acts d.parts apart meets };
 
     ghost disposal = { λ d s es e now acts own call reply meets.
-        playing_disposed d.place.script.now d.place.looper d.now d.began.now.value s es e now acts d.parts own call reply meets };
+        playing_disposed d.place.script.now d.place.looper d.now d.began.now.value d.dispatched s es e now acts d.parts own call reply meets };
 
-    ghost quiet = { λ d s es a acts is meets. playing_quiet d.place.script.now d.place.looper d.now d.began.now.value s es a acts d.parts is meets };
+    ghost quiet = { λ d s es a acts is meets. playing_quiet d.place.script.now d.place.looper d.now d.began.now.value d.dispatched s es a acts d.parts is meets };
 }
 
 impl<'a, R: Wait> Place<'a, R> {

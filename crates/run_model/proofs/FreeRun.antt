@@ -126,6 +126,7 @@ looper_run = record {
   whole = refl;
   moments = tt;
   pulses = tt;
+  pulses_first = tt;
 }
 
 pub is_run : IsRun mode script report

@@ -1,4 +1,5 @@
--- Reports that are no runs of their script: pulses don't rise, come at another time than their own or before the frame of the one before them, or have no frame.
+-- Reports that are no runs of their script: pulses don't rise, come at another time than their own, behind a dispatch of their own time, or before the frame of
+-- the one before them, or have no frame.
 use Rattle.std.proofs.Common.{◌≡◌, ℕ, Bool, true, Option, List, [], ◌∷◌, ◌++◌, Some, None, refl}
 use Rattle.std.specs.List.{AllByRecursion}
 use Rattle.std.specs.Prelude.{map}
@@ -12,9 +13,9 @@ use Rattle.dash_script.specs.declared.script.Script.{Script}
 use Rattle.run_model.specs.Planned.{history_of, looper_sender}
 use Rattle.run_model.specs.Control.{befores, are_on_time}
 use Rattle.run_model.specs.Moments.{in_lockstep}
-use Rattle.run_model.specs.Loopers.{LooperState, first_looper, has_frames}
+use Rattle.run_model.specs.Loopers.{LooperState, first_looper, has_frames, pulses_come_first}
 use Rattle.run_model.specs.Run.{IsRun, caused_on}
-use Rattle.run_model.proofs.Examples.{entry, frame_message, handler_on, block, by, plain_script, callback}
+use Rattle.run_model.proofs.Examples.{entry, message, frame_message, handler_on, block, by, plain_script, callback}
 use Rattle.run_model.proofs.RunBut as but
 use Rattle.run_model.proofs.Table.{Row, queue_in, report_of, computing}
 use Rattle.run_model.proofs.Led.{any_led, led_passes}
@@ -202,3 +203,45 @@ late_pulses =
 pub late_pulses_fail : AllByRecursion Fails late_pulses
 unfolding computing
 late_pulses_fail = each_fails is_main_on_time on_time_by_run late_pulses refl refl
+
+-- ---- a pulse behind a dispatch of its own millisecond
+
+-- main's pulses come before the dispatches of their own milliseconds
+abbrev main_pulses_first : Script → List Row → Bool
+main_pulses_first s [] = true
+main_pulses_first s (row ∷ rows) = pulses_come_first row.acts
+
+first_by_run : (s : Script) (rows : List Row) → IsRun in_lockstep s (report_of s rows) → main_pulses_first s rows ≡ true
+first_by_run s [] r = refl
+first_by_run s (row ∷ rows) r = r.loopers.0.pulses_first
+
+abbrev not_first : List Faulty
+not_first =
+    -- the pulse of 16666667 comes at 17, behind a message that is due then
+    faulty but.First (plain_script 1 1 (handler_on 0 ∷ []) (block 10 (by 0 (command.Frame 0 0 8 0) ∷ by 0 (command.Post 0 7 7) ∷ []) ∷ []) 20) (record {
+      entries = entry 2 0 (call.Advance 10) reply.Advanced ∷ entry 0 0 (call.Post (message 0 7 17 None)) (reply.Accepted 0) ∷ entry 2 1 (call.Advance 17) reply.Advanced
+          ∷ entry 1 0 (call.Next 17) (reply.Dispatched 0)
+          ∷ entry 1 1 (call.Post (frame_message 0 16 None)) (reply.Accepted 1) ∷ entry 1 2 (call.Next 17) (reply.Dispatched 1)
+          ∷ entry 2 2 (call.Advance 20) reply.Advanced ∷ entry 2 3 (call.Halt 20) reply.Halted ∷ [];
+      acts = dispatch 0 17 ∷ act.Vsync 16666667 ∷ dispatch 1 17 ∷ [];
+      frames = frame.Posted (callback 0 0 10 8) ∷ frame.Begin 16666667 17000000 16666667 ∷ frame.Take 0 17000000 16666667 ∷ frame.Ran 0
+          ∷ frame.Take 1 17000000 16666667 ∷ frame.Take 2 17000000 16666667 ∷ frame.Take 3 17000000 16666667 ∷ [];
+      places = None ∷ None ∷ Some 1 ∷ [];
+      disposed_at = 0;
+    } ∷ [])
+    -- of two pulses of one millisecond the second one comes behind the first one's frame
+    ∷ faulty but.First two_a_millisecond (record {
+      entries = entry 2 0 (call.Advance 10) reply.Advanced ∷ entry 2 1 (call.Advance 34) reply.Advanced
+          ∷ entry 1 0 (call.Post (frame_message 0 33 None)) (reply.Accepted 0) ∷ entry 1 1 (call.Next 34) (reply.Dispatched 0)
+          ∷ entry 1 2 (call.Post (frame_message 0 34 None)) (reply.Accepted 1) ∷ entry 1 3 (call.Next 34) (reply.Dispatched 1)
+          ∷ entry 2 2 (call.Advance 40) reply.Advanced ∷ entry 2 3 (call.Halt 40) reply.Halted ∷ [];
+      acts = act.Vsync 33500000 ∷ dispatch 0 34 ∷ act.Vsync 34000000 ∷ dispatch 1 34 ∷ [];
+      frames = frame.Posted (callback 0 0 10 8) ∷ frame_at_34 33500000 34000000 (frame.Ran 0 ∷ []) ++ frame_at_34 34000000 34000000 [];
+      places = None ∷ Some 1 ∷ None ∷ Some 7 ∷ [];
+      disposed_at = 0;
+    } ∷ [])
+    ∷ []
+
+pub not_first_fail : AllByRecursion Fails not_first
+unfolding computing
+not_first_fail = each_fails main_pulses_first first_by_run not_first refl refl

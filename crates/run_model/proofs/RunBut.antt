@@ -21,7 +21,7 @@ use Rattle.run_model.specs.declared.report.Report.{Report}
 use Rattle.run_model.specs.Planned.{history_of, AreFor, entries_by, looper_sender, controller}
 use Rattle.run_model.specs.Moments.{in_lockstep}
 use Rattle.run_model.specs.Control.{is_called_in_time, are_before_quit, befores, are_on_time, Move, moves, move_times, main_moves, MayMoveTo}
-use Rattle.run_model.specs.Loopers.{LooperState, first_looper, MayCome, after_act, ActsLead, IsSent, asked_then, has_frames}
+use Rattle.run_model.specs.Loopers.{LooperState, first_looper, MayCome, after_act, ActsLead, IsSent, asked_then, has_frames, pulses_come_first}
 use Rattle.run_model.specs.FrameRecords.{are_run_then, are_whole, asks_in, TimedAsk, AreAskedInTurn}
 use Rattle.run_model.specs.Run.{IsReportOf, AreRecordsOf, IsAsPlanned, IsControlled, IsFrameRun, caused_on, IsLooperRun, EachLooper, are_in_order, IsTimely, main_ends_halted, IsRun}
 use Rattle.run_model.specs.Parts.{all_entries, IsThreadOnTime, IsBeforeQuit}
@@ -68,6 +68,8 @@ pub data Clause : Type 0 where
   Awaited : Clause
   -- each pulse whose message is taken has its frame
   Framed : Clause
+  -- each pulse comes before the dispatches of its own millisecond
+  First : Clause
   -- a choreographer's record is lawful
   Lawful : Clause
   -- what is painted at the end is told
@@ -102,6 +104,7 @@ number_of Lawful = 20
 number_of Settled = 21
 number_of Controlled = 22
 number_of Halted = 23
+number_of First = 24
 
 -- this is so, unless it is the clause that is left out
 abbrev pub Unless : Clause → Clause → Type 0 → Type 0
@@ -169,6 +172,7 @@ pub record IsLooperRunBut (out : Clause) (s : Script) (queues : List QueueRecord
   pub on_time : Unless out OnTime (Unless out Takes (AllByRecursion (λ (r : QueueRecord). are_on_time (map (λ x. x.timing) (caused_on r.looper final q.looper disposed_at)) (befores (looper_sender s q.looper) (history_of r)) ≡ true) queues))
   pub moments : Unless out Moments (Unless out Starts (are_run_then f.entries final.frames ≡ true))
   pub pulses : Unless out Framed (Unless out Awaited (has_frames j.acts final ≡ true))
+  pub pulses_first : Unless out First (Unless out Rising (pulses_come_first j.acts ≡ true))
 
 -- a choreographer's record, but for the clause that is left out
 pub record IsFrameRunBut (out : Clause) (s : Script) (f : FrameRecord) : Type 0 where
@@ -234,6 +238,7 @@ is_run s r h = record {
     on_time = x.on_time;
     moments = x.moments;
     pulses = x.pulses;
+    pulses_first = x.pulses_first;
   }) r.queues r.journals r.frames h.loopers;
   timely = record {
     halted = h.halted;

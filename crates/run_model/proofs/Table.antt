@@ -33,7 +33,7 @@ use Rattle.run_model.specs.declared.report.Report.{Report}
 use Rattle.run_model.specs.Planned.{history_of, AreFor, bare_call, call_of, token_in, entries_by, looper_sender, controller, sender_count, lines_of, labels_on}
 use Rattle.run_model.specs.Moments.{in_lockstep}
 use Rattle.run_model.specs.Control.{InBlock, is_controlled, is_called_in_time, are_before_quit, befores, are_on_time, Move, moves, move_times, main_moves, is_planned_time, was_due_at, MayMoveTo}
-use Rattle.run_model.specs.Loopers.{LooperState, SentCall, first_looper, starts_frame, IsSent, MayCome, after_act, dispatched, asked_then, has_frames}
+use Rattle.run_model.specs.Loopers.{LooperState, SentCall, first_looper, starts_frame, IsSent, MayCome, after_act, dispatched, asked_then, has_frames, pulses_come_first}
 use Rattle.run_model.specs.FrameRecords.{millis_up, is_frame_from, has_stamp, are_run_then, are_whole, asks_in}
 use Rattle.run_model.specs.Run.{IsRun, IsRecordOf, IsAsPlanned, IsControlled, EachLooper, record_setting, caused_on, are_in_order, main_ends_halted}
 use Rattle.run_model.specs.Parts.{all_entries}
@@ -42,7 +42,7 @@ use Rattle.run_model.proofs.Below.{EachBelow, each_below}
 use Rattle.run_model.proofs.Parting.{can_ask_in_turn, asks_are_in_turn}
 use Rattle.run_model.proofs.ByTests.{answers, replies, are_timely, are_numbered, history_by, planned_calls, made_calls, thread_lines, MakesThem, calls_by}
 use Rattle.run_model.proofs.Examples.{queue, journal, page, handler_on, plain_script}
-use Rattle.run_model.proofs.RunBut.{Clause, Nothing, Asked, Stamps, Whole, Moments, Starts, Pulses, OnTime, Takes, Controls, BeforeQuit, Threads, Order, Blocks, Due, Together, Awaited, Framed, Lawful, Settled, Controlled, Halted, number_of, Unless, with_pulses, with_stamps, made_but, before_act, LeadBut, IsFrameRunBut, IsLooperRunBut, IsTimelyBut, IsRunBut}
+use Rattle.run_model.proofs.RunBut.{Clause, Nothing, Asked, Stamps, Whole, Moments, Starts, Pulses, OnTime, Takes, Controls, BeforeQuit, Threads, Order, Blocks, Due, Together, Rising, Awaited, Framed, First, Lawful, Settled, Controlled, Halted, number_of, Unless, with_pulses, with_stamps, made_but, before_act, LeadBut, IsFrameRunBut, IsLooperRunBut, IsTimelyBut, IsRunBut}
 use Rattle.run_model.proofs.RunBut as but
 
 -- ---- a report as data
@@ -295,6 +295,7 @@ pub record LooperTest : Type 0 where
   pub on_time : Bool
   pub moments : Bool
   pub pulses : Bool
+  pub pulses_first : Bool
   pub controls : Bool
   pub before_quit : Bool
   pub threads : List Bool
@@ -333,6 +334,7 @@ found_in out s queues n row =
       on_time = unless out OnTime (unless out Takes (list_all (λ r. are_on_time (map (λ x. x.timing) (caused_by out s n row r)) (befores (looper_sender s n) (history_of r))) queues));
       moments = unless out Moments (unless out Starts (are_run_then row.frames final.frames));
       pulses = unless out Framed (unless out Awaited (has_frames row.acts final));
+      pulses_first = unless out First (unless out Rising (pulses_come_first row.acts));
       controls = unless out Controls (is_called_in_time (controller s) es);
       before_quit = unless out BeforeQuit (are_before_quit s.threads (controller s) es);
       threads = kept out Threads (kept out Blocks (down_from s.threads (has_called_then s q)));
@@ -361,6 +363,7 @@ wanted_in out s queues n row =
       on_time = true;
       moments = true;
       pulses = true;
+      pulses_first = true;
       controls = true;
       before_quit = true;
       threads = kept out Threads (kept out Blocks (down_from s.threads (λ thread. true)));
@@ -415,6 +418,7 @@ looper_of out s queues n row e =
             (λ r. are_on_time (map (λ x. x.timing) (caused_by out s n row r)) (befores (looper_sender s n) (history_of r))) (λ r one. one) queues h) (ap (λ (t : LooperTest). t.on_time) e);
         moments = both_left (number_of out == number_of Moments) (number_of out == number_of Starts) _ _ (λ h. h) (ap (λ (t : LooperTest). t.moments) e);
         pulses = both_left (number_of out == number_of Framed) (number_of out == number_of Awaited) _ _ (λ h. h) (ap (λ (t : LooperTest). t.pulses) e);
+        pulses_first = both_left (number_of out == number_of First) (number_of out == number_of Rising) _ _ (λ h. h) (ap (λ (t : LooperTest). t.pulses_first) e);
       };
       timely = record {
         controls = unless_true (number_of out == number_of Controls) _ _ (λ h. h) (ap (λ (t : LooperTest). t.controls) e);

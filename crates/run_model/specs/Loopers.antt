@@ -1,13 +1,14 @@
 -- What a looper comes to: its gauges, its traversal, its rules, and the calls and frame callbacks that each act in its journal causes.
 use Rattle.std.specs.Prelude.{ℕ, ◌+◌, ◌-◌, ◌==◌, min, Bool, true, false, ◌&&◌, ◌||◌, not, nat_lt, nat_le, List, [], ◌∷◌, ◌++◌, Option, Some, None, is_some, map}
 use Rattle.std.specs.Prelude.{fold, slice_get, slice_set, replicate, length, if◌then◌else◌, ◌≡◌, ◌/◌}
-use Rattle.std.specs.List.{filter_map, zip, enumerate_from, range_with_len}
+use Rattle.std.specs.List.{filter_map, list_all, zip, enumerate_from, range_with_len}
 use Rattle.std.specs.Option.{option_map_or, MatchOption}
 use Rattle.loop_model.specs.declared.post.Post.{Post as PostData}
 use Rattle.loop_model.specs.declared.call.Call.TheVariants.{Post, Barrier, Next}
 use Rattle.loop_model.specs.declared.reply.Reply.{Reply}
 use Rattle.loop_model.specs.declared.reply.Reply.TheVariants.{Dispatched, Disposed}
 use Rattle.loop_model.specs.Posts.{moment_after, post_at}
+use Rattle.loop_model.specs.Dispatches.{act_dispatch}
 use Rattle.loop_model.specs.declared.journal.Act.{Act}
 use Rattle.loop_model.specs.declared.journal.Act.TheVariants.{Paint, Dispatch, Idle, Event, Vsync}
 use Rattle.loop_model.specs.declared.entry.Entry.{Entry}
@@ -218,6 +219,14 @@ pulse_stamp _ = None
 
 abbrev pub has_frames : List Act → LooperState → Bool
 has_frames acts a = length (filter_map pulse_stamp acts) == length a.frames + (if a.awaits then 1 else 0)
+
+-- no pulse of these acts is of this millisecond or an earlier one; and none comes behind a dispatch of its own millisecond or of a later one
+abbrev pub pulses_are_later : ℕ → List Act → Bool
+pulses_are_later time acts = list_all (λ stamp. nat_lt time (millis_up stamp)) (filter_map pulse_stamp acts)
+
+abbrev pub pulses_come_first : List Act → Bool
+pulses_come_first [] = true
+pulses_come_first (x ∷ acts) = option_map_or (λ (n, now). pulses_are_later now acts) (act_dispatch x) true && pulses_come_first acts
 
 -- the last call of a looper that is not main: the look for a message that disposes of its queue
 abbrev pub closing : ℕ → ℕ → List SentCall

@@ -21,7 +21,7 @@ use Rattle.run_model.specs.Planned.{history_of, AreFor, entries_by, looper_sende
 use Rattle.run_model.specs.Moments.{Mode, IfLockstep, in_lockstep, IfFree, AreOfClockAfter}
 use Rattle.run_model.specs.Control.{is_controlled, ends_halted, is_called_in_time, are_before_quit, befores, InBlock, are_on_time, each_behind, moves}
 use Rattle.run_model.specs.Control.{AreMovedTogether, AreBlocksFirst, AreBlocksReached}
-use Rattle.run_model.specs.Loopers.{LooperState, SentCall, first_looper, ActsLead, closing, IsSent, asked_then, has_frames}
+use Rattle.run_model.specs.Loopers.{LooperState, SentCall, first_looper, ActsLead, closing, IsSent, asked_then, has_frames, pulses_come_first}
 use Rattle.run_model.specs.FrameRecords.{are_run_then, are_whole, asks_in, AreAskedInTurn}
 
 abbrev pub record_setting : QueueRecord → Setting
@@ -75,7 +75,8 @@ caused_on queue final looper disposed_at = filter (λ x. x.queue == queue) (fina
 
 -- a looper's calls on each queue are those that its acts cause, the posts, removals and frames of its frame record are parted among those who ask for
 -- them, in turn, the frames are whole, and its Dispatch acts are, one for one and in order, its entries answered Dispatched. All that was painted is told. In
--- lockstep each call is on time, each frame starts and takes its phases at the time of its dispatch, and each pulse whose message is taken has its frame
+-- lockstep each call is on time, each frame starts and takes its phases at the time of its dispatch, each pulse whose message is taken has its frame, and
+-- none comes behind a dispatch of its own millisecond
 pub record IsLooperRun (m : Mode) (s : Script) (queues : List QueueRecord) (q : QueueRecord) (j : Journal) (f : FrameRecord) : Type 0 where
   pub final : LooperState
   pub acts : ActsLead s q.looper (history_of q) f.entries (first_looper s) j.acts final
@@ -90,6 +91,7 @@ pub record IsLooperRun (m : Mode) (s : Script) (queues : List QueueRecord) (q : 
       are_on_time (map (λ x. x.timing) (caused_on r.looper final q.looper disposed_at)) (befores (looper_sender s q.looper) (history_of r)) ≡ true) queues)
   pub moments : IfLockstep m (are_run_then f.entries final.frames ≡ true)
   pub pulses : IfLockstep m (has_frames j.acts final ≡ true)
+  pub pulses_first : IfLockstep m (pulses_come_first j.acts ≡ true)
 
 -- part 5 of a run: the loopers' calls, journals and frame records, each with its looper's queue, and no others
 abbrev pub EachLooper : (QueueRecord → Journal → FrameRecord → Type 0) → List QueueRecord → List Journal → List FrameRecord → Type 0

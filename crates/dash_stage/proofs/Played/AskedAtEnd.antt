@@ -37,7 +37,7 @@ module _ (s : Script) (st : Stage) (is : IsStage s st) (run : HaveRunInLockstep 
       let rest : LooperRest = record { frames = parts.0.frames; root = parts.0.root; fired = parts.0.fired.items; passed = parts.0.passed; awaits = parts.0.awaits } in
       let same : all.0 ≡ was.made = sym (all.1.looper l lt rest there).0.1 ∙ (was.looper l lt rest there).0.1 in
       let made = looper_made s st is k few was.made l parts.0 lt (was.looper l lt) parts.1 in
-      let stands = subst (λ (o : Option Parts). IsSomeAnd o (λ z. StandsBy true s x.number x.sender x.looper.held.poster.view.seen x.looper.held.journal.acts z a a)) parts.1 come in
+      let stands = subst (λ (o : Option Parts). IsSomeAnd o (λ z. StandsBy true s x.number x.sender x.looper.held.poster.view.seen x.looper.held.journal.acts z a a)) parts.1 come.0 in
       record {
         made = was.made;
         heard = (all.1.controller p (in_controller s st is k few)).1 ∙ same;

@@ -193,6 +193,7 @@ module _ (mode : Mode) (s : Script) (queues : List QueueRecord) (k : ℕ) (j : J
             (λ t. subst (λ (m : ℕ). AllByRecursion (λ (r : QueueRecord). are_on_time (timings (caused_on r.looper a m at)) (befores (looper_sender s m) (history_of r)) ≡ true) queues) (sym is) (each_time t)) h.timely;
         moments = in_step mode.lockstep (HasStarted s kit a) (are_run_then f.entries a.frames ≡ true) (λ t. t h.pass f.entries (h.frames 0 (omega arith)) is_lawful) h.left.moments;
         pulses = h.framed;
+        pulses_first = h.left.pulses_first;
       }
     where
       same : (r : ℕ) (y : QueueRecord) → r ≡ k → r < length queues → (history_of (slice_index_or queues k x)) ≡ (history_of (slice_index_or queues r y))

@@ -282,33 +282,35 @@ module _ (s : Script) (text : HasText s) (st : Stage) (ls : List StageLooper) (s
 
     -- where it came to by the round
     went : HasPlayed s st.time began ran → (parts : Parts) × (ran.parts ≡ Some parts)
-        × ComesTo s k st.time timely_before.state sender (whole_on st.controller k l.looper.held.poster) ran.looper.held.poster.view.seen ran.looper.held.journal.acts parts
+        × ComesTo s k st.time timely_before.state ran.dispatched sender (whole_on st.controller k l.looper.held.poster) ran.looper.held.poster.view.seen ran.looper.held.journal.acts parts
     went played =
         let d = l.looper.held.poster in
         let was = is.loopers.1 k l was_looper in
         let p = looper_parts s st.hall is.hall ran (loopers.1 k l in_ran).0 in
         let some = played (on k l in_ran) text timely_before.state timely_before.come in
-        let come = subst (λ (o : Option Parts). IsSomeAnd o (ComesTo s began.number st.time timely_before.state began.sender began.looper.held.poster.view.seen ran.looper.held.poster.view.seen ran.looper.held.journal.acts)) p.1 some in
+        let come = subst (λ (o : Option Parts). IsSomeAnd o (ComesTo s began.number st.time timely_before.state ran.dispatched began.sender began.looper.held.poster.view.seen ran.looper.held.poster.view.seen ran.looper.held.journal.acts)) p.1 some in
         let mine : began.sender ≡ sender = was.0.sender ∙ ap (λ (n : ℕ). s.threads + n) was.1 in (
           p.0,
           p.1,
-          subst (λ es. ComesTo s k st.time timely_before.state sender es ran.looper.held.poster.view.seen ran.looper.held.journal.acts p.0) (looper_sees s st is step.same k l d was_looper)
-              (subst (λ (n : ℕ). ComesTo s k st.time timely_before.state n began.looper.held.poster.view.seen ran.looper.held.poster.view.seen ran.looper.held.journal.acts p.0) mine
-              (subst (λ (n : ℕ). ComesTo s n st.time timely_before.state began.sender began.looper.held.poster.view.seen ran.looper.held.poster.view.seen ran.looper.held.journal.acts p.0) was.1 come)),
+          subst (λ es. ComesTo s k st.time timely_before.state ran.dispatched sender es ran.looper.held.poster.view.seen ran.looper.held.journal.acts p.0) (looper_sees s st is step.same k l d was_looper)
+              (subst (λ (n : ℕ). ComesTo s k st.time timely_before.state ran.dispatched n began.looper.held.poster.view.seen ran.looper.held.poster.view.seen ran.looper.held.journal.acts p.0) mine
+              (subst (λ (n : ℕ). ComesTo s n st.time timely_before.state ran.dispatched began.sender began.looper.held.poster.view.seen ran.looper.held.poster.view.seen ran.looper.held.journal.acts p.0) was.1 come)),
         )
 
     module _ (played : HasPlayed s st.time began ran) (going : is_ended began.last ≡ false) where
-      abbrev came : ComesTo s k st.time timely_before.state sender (whole_on st.controller k l.looper.held.poster) ran.looper.held.poster.view.seen ran.looper.held.journal.acts (went played).0
+      abbrev came : ComesTo s k st.time timely_before.state ran.dispatched sender (whole_on st.controller k l.looper.held.poster) ran.looper.held.poster.view.seen ran.looper.held.journal.acts (went played).0
       came = (went played).2
 
       -- the looper stands at the new state
       comes_on : StandsBetweenRounds s ran came.state
       comes_on =
           let one = loopers.1 k l in_ran in
-          let mine : sender ≡ ran.sender = ap (λ (n : ℕ). s.threads + n) (sym one.1) ∙ sym one.0.sender in
+          let mine : sender ≡ ran.sender = ap (λ (n : ℕ). s.threads + n) (sym one.1) ∙ sym one.0.sender in (
           subst (λ (o : Option Parts). IsSomeAnd o (λ parts. Stands s ran.number ran.sender ran.looper.held.poster.view.seen ran.looper.held.journal.acts parts came.state)) (sym (went played).1)
           (subst (λ (n : ℕ). Stands s n ran.sender ran.looper.held.poster.view.seen ran.looper.held.journal.acts (went played).0 came.state) (sym one.1)
-          (subst (λ (n : ℕ). Stands s k n ran.looper.held.poster.view.seen ran.looper.held.journal.acts (went played).0 came.state) mine came.stands))
+          (subst (λ (n : ℕ). Stands s k n ran.looper.held.poster.view.seen ran.looper.held.journal.acts (went played).0 came.state) mine came.stands)),
+          came.first,
+          )
 
       comes_left : StandsBetweenRounds s left came.state
       comes_left = heard_come s st.hall is.hall ran (loopers.1 k l in_ran).0 left (kept.each k l in_ran) came.state comes_on
@@ -353,7 +355,7 @@ module _ (s : Script) (text : HasText s) (st : Stage) (ls : List StageLooper) (s
           let here = is.loopers.1 k l was_looper in
           let mine : began.sender ≡ sender = here.0.sender ∙ ap (λ (n : ℕ). s.threads + n) here.1 in
           let first : Stands s began.number began.sender began.looper.held.poster.view.seen began.looper.held.journal.acts p timely_before.state =
-          subst (λ (o : Option Parts). IsSomeAnd o (λ parts. Stands s began.number began.sender began.looper.held.poster.view.seen began.looper.held.journal.acts parts timely_before.state)) has timely_before.come in
+          subst (λ (o : Option Parts). IsSomeAnd o (λ parts. Stands s began.number began.sender began.looper.held.poster.view.seen began.looper.held.journal.acts parts timely_before.state)) has timely_before.come.0 in
           asks_in_round s k sender st.time st.time began.looper.held.poster.view.seen ran.looper.held.poster.view.seen came.looks began.looper.held.journal.acts ran.looper.held.journal.acts p (went played).0 timely_before.state came.state
           (subst (λ (n : ℕ). Stands s n sender began.looper.held.poster.view.seen began.looper.held.journal.acts p timely_before.state) here.1
           (subst (λ (n : ℕ). Stands s began.number n began.looper.held.poster.view.seen began.looper.held.journal.acts p timely_before.state) mine first)) came.stands came.on

@@ -34,6 +34,7 @@ use Rattle.dash_loopers.specs.declared.view_root.ViewRoot.{ViewRoot}
 use Rattle.dash_loopers.specs.declared.looper.StageLooper.{StageLooper}
 use Rattle.dash_loopers.specs.Players.{PlaceWithout}
 use Rattle.dash_loopers.specs.Loopers.{IsLooper, IsSoundOn, LooperRest, LooperKeeps, posters_of, others_in, rest_in, is_disposal}
+use Rattle.dash_loopers.specs.PulsesFirst.{TellsPulsesFirst}
 use Rattle.dash_loopers.specs.Played.{calls_in, IsRootOf, IsShown, IsPlayed, HasSeenUpTo, StandsBy, StandsBetweenRounds, StandsBetweenLoops}
 use Rattle.dash_stage.specs.declared.stage.Stage.{Stage}
 use Rattle.dash_stage.specs.Stages.{IsStage}
@@ -157,7 +158,10 @@ module _ (s : Script) (hall : Hall) (is_hall : IsHall s hall) (l : StageLooper) 
 
   -- it has come as far, in lockstep and by a clock
   pub heard_come : (a : LooperState) → StandsBetweenRounds s l a → StandsBetweenRounds s b a
-  heard_come a come = heard_stands true a a come
+  heard_come a come = (heard_stands true a a come.0, heard_first come.1)
+    where
+      heard_first : TellsPulsesFirst l.dispatched l.looper.held.journal.acts → TellsPulsesFirst b.dispatched b.looper.held.journal.acts
+      heard_first first = subst (λ (n : ℕ). TellsPulsesFirst n b.looper.held.journal.acts) (sym k.dispatched) (subst (λ (j : Journal). TellsPulsesFirst l.dispatched j.acts) (sym k.beside.journal) first)
 
   pub heard_come_by : (did a : LooperState) → StandsBetweenLoops s l did a → StandsBetweenLoops s b did a
   heard_come_by did a come = (come.0, heard_stands false did a come.1)
@@ -172,7 +176,7 @@ module _ (s : Script) (st : Stage) (is : IsStage s st) (same : HaveSeenTheSame s
   come_parts =
       let one = is.loopers.1 k l lt in
       let p = looper_parts s st.hall is.hall looper one.0 in
-      let stands = subst (λ (o : Option Parts). IsSomeAnd o (λ parts. StandsBy true s looper.number looper.sender looper.looper.held.poster.view.seen looper.looper.held.journal.acts parts a a)) p.1 come in (
+      let stands = subst (λ (o : Option Parts). IsSomeAnd o (λ parts. StandsBy true s looper.number looper.sender looper.looper.held.poster.view.seen looper.looper.held.journal.acts parts a a)) p.1 come.0 in (
         p.0,
         p.1,
         subst (λ (m : ℕ). IsPlayed s m (calls_in (looper_sender s m) looper.looper.held.poster.view.seen) p.0 a) one.1

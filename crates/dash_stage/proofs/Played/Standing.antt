@@ -10,7 +10,7 @@ use Rattle.dash_script.specs.Causes.{phase_count}
 use Rattle.choreographer.specs.Known.{Pass}
 use Rattle.looper_run.specs.Holding.{Sender}
 use Rattle.run_model.specs.Planned.{AreFor}
-use Rattle.run_model.specs.Loopers.{ActsLead, IsSent, LooperState, first_looper, has_frames}
+use Rattle.run_model.specs.Loopers.{ActsLead, IsSent, LooperState, first_looper, has_frames, pulses_come_first}
 use Rattle.run_model.specs.Parts.{sent_on, asks_to_run}
 use Rattle.run_model.specs.FrameRecords.{are_run_then, are_whole, as_told}
 use Rattle.dash_hall.specs.declared.kit.Kit.{Kit}
@@ -39,6 +39,7 @@ pub record HasLeftIn (lockstep : Bool) (s : Script) (q : ℕ) (j : Journal) (kit
       → ActsLead s q (slice_index_or kit.posters.items q d).view.seen fs (first_looper s) j.acts a
   pub moments : MatchBool lockstep (HasStarted s kit a) (Unit {0})
   pub pulses : MatchBool lockstep (HasFramed s q j kit a) (Unit {0})
+  pub pulses_first : MatchBool lockstep (pulses_come_first j.acts ≡ true) (Unit {0})
   pub whole : (p : Pass) (fs : List FrameEntry) → IsPrefix (slice_index_or kit.frames.items 0 p).view.seen fs → lawful s.period (phase_count s.edition) fs ≡ true → are_whole (phase_count s.edition) fs a.frames ≡ true
   pub settled : a.painted ≡ []
   pub calls : (d : Sender) → AreFor IsSent [] (sent_on q a.sent) (calls_of (slice_index_or kit.posters.items q d))
@@ -60,6 +61,7 @@ left_in_step s q j kit a h = record {
   led = h.led;
   moments = h.moments;
   pulses = h.pulses;
+  pulses_first = h.pulses_first;
   whole = h.whole;
   settled = h.settled;
   calls = h.calls;
@@ -74,6 +76,7 @@ left_by_clock s q j kit a h = record {
   led = h.led;
   moments = tt;
   pulses = tt;
+  pulses_first = tt;
   whole = h.whole;
   settled = h.settled;
   calls = h.calls;

@@ -24,6 +24,7 @@ returns-then-place-number-clause-kept c =
       beside = c.hear.ensures.beside;
       rest = may_self (rest_in l.parts);
       last = refl;
+      dispatched = refl;
     }
 
 pub hear-requires-2-after_bounds : goal.hear-requires-2-after_bounds
@@ -50,4 +51,5 @@ returns-clause-kept c =
       beside = record { pass = refl; journal = refl; idle_owed = refl; ended = refl };
       rest = may_same (rest_in l.parts) (rest_in (Some parts)) (sym (ap rest_in is));
       last = refl;
+      dispatched = refl;
     }

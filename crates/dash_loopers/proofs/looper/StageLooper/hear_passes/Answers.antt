@@ -50,6 +50,7 @@ returns-clause-kept c =
         beside = record { pass = refl; journal = refl; idle_owed = refl; ended = refl };
         rest = subst (λ o. MayHaveHeard o (Some r')) (sym (ap rest_in is)) heard;
         last = refl;
+        dispatched = refl;
       },
       λ z here. subst (λ (z : LooperRest). HasHeardAll whole z.frames × HasHeardAll whole z.root.pass) (same_Some r' z here) ((c.hear.ensures.knows.2, first), (c.hear-2.ensures.knows.2, second)),
     )

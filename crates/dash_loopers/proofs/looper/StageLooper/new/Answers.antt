@@ -11,6 +11,7 @@ use Rattle.dash_loopers.specs.Loopers.{LooperRest}
 use Rattle.dash_loopers.proofs.LooperPasses.{unheard_all}
 use Rattle.dash_loopers.proofs.LooperKits.{its_frames, two_frames, first_is, kit_many, kit_two, posters_begin, looper_begins}
 use Rattle.dash_loopers.proofs.LooperPlaces.{none_latest}
+use Rattle.dash_loopers.proofs.FirstPulses.{tells_none}
 use Rattle.dash_loopers.proofs.LooperPlayed.{unseen_without, stands_first}
 use Rattle.dash_loopers.proofs.looper.StageLooper.new.Goals as goal
 
@@ -66,11 +67,14 @@ returns c =
         posters = posters_begin kit c.args.number c.remove-poster.result c.make.result.held.poster c.remove-poster.new.self.items many
             c.remove-poster.ensures.value c.remove-poster.ensures.items (ap (λ (h : Holding). h.poster) held);
         waits = refl;
-        begun = stands_first s c.args.number _ _ _ _ (ap (λ (h : Holding). h.poster.view.seen) held ∙ none) (ap (λ (h : Holding). h.journal.acts) held)
-            c.in_ok-new.ensures.still c.in_ok-new.ensures.gauges c.in_ok-new.ensures.rest.0 c.in_ok-new.ensures.rest.1 c.in_ok-new.ensures.rest.2
-            (subst AreUnseen (sym c.remove-poster.ensures.items) (unseen_without kit.posters.items c.args.number many unused.posters))
-            (c.in_ok-vec.ensures.items_if_clones_equal (λ y same. same) ∙ ap (λ (n : ℕ). replicate n 0) c.len.ensures)
-            (ap (λ (p : Pass). p.view.own) c.in_ok-new.ensures.pass ∙ unasked) (ap (λ (p : Pass). p.view.turns) c.in_ok-new.ensures.pass ∙ untaken) unrun unpulsed refl (sym first.0.seen ∙ ap made_entries first.1);
+        begun = (
+          stands_first s c.args.number _ _ _ _ (ap (λ (h : Holding). h.poster.view.seen) held ∙ none) (ap (λ (h : Holding). h.journal.acts) held)
+              c.in_ok-new.ensures.still c.in_ok-new.ensures.gauges c.in_ok-new.ensures.rest.0 c.in_ok-new.ensures.rest.1 c.in_ok-new.ensures.rest.2
+              (subst AreUnseen (sym c.remove-poster.ensures.items) (unseen_without kit.posters.items c.args.number many unused.posters))
+              (c.in_ok-vec.ensures.items_if_clones_equal (λ y same. same) ∙ ap (λ (n : ℕ). replicate n 0) c.len.ensures)
+              (ap (λ (p : Pass). p.view.own) c.in_ok-new.ensures.pass ∙ unasked) (ap (λ (p : Pass). p.view.turns) c.in_ok-new.ensures.pass ∙ untaken) unrun unpulsed refl (sym first.0.seen ∙ ap made_entries first.1),
+          tells_none 0 _ (ap (λ (h : Holding). h.journal.acts) held),
+        );
         nothing = record { acts = ap (λ (h : Holding). h.journal.acts) held; idle_owed = c.make.ensures.flags.0; pass = ap (λ (h : Holding). h.pass) held };
         unheard = λ r is. subst (λ (z : LooperRest). HasHeardAll [] z.frames × HasHeardAll [] z.root.pass) (same_Some _ _ is) (
           first,

@@ -57,8 +57,8 @@ returns-clause-waits g c =
 pub returns-clause-plays : goal.returns-clause-plays
 returns-clause-plays g c =
     let l = c.args.self.now in
-    played_left c.args.script.now c.args.now l c.run_round-self.new.self c.run_round-self.result c.run_round-self.new.d.parts c.close.new.parts (λ going. c.close.ensures.same (c.gave_up-2.ensures ∙ going))
-    (played_round c.args.script.now c.args.hall.now c.args.now l _ _ c.run_round-self.new.d.parts c.run_round-self.new.self c.run_round-self.result c.of-began.ensures c.requires.may.looper.own
+    played_left c.args.script.now c.args.now l c.run_round-self.new.d.dispatched c.run_round-self.new.self c.run_round-self.result c.run_round-self.new.d.parts c.close.new.parts (λ going. c.close.ensures.same (c.gave_up-2.ensures ∙ going))
+    (played_round c.args.script.now c.args.hall.now c.args.now l _ _ c.run_round-self.new.d.dispatched c.run_round-self.new.d.parts c.run_round-self.new.self c.run_round-self.result c.of-began.ensures c.requires.may.looper.own
     c.run_round-self.ensures.keeps.origin c.run_round-self.ensures.keeps.same (λ on. (unless c.run_round-self.result _ on c.run_round-self.ensures.rests).meets))
 
 pub returns-clause-still : goal.returns-clause-still
@@ -67,7 +67,7 @@ returns-clause-still g c =
     let ran = c.run_round-self.ensures in
     let left = parts_left c.args.script.now c.args.hall.now c.args.now _ c.args.self.now _ c.in-Some.parts c.run_round-self.new.d.parts c.requires.may.is_hall c.requires.may.looper is ran.keeps.origin ran.keeps.serves in
     record {
-      looper = looper_then c.args.script.now c.args.hall.now c.args.now c.args.self.now c.of_looper.result.now c.close.new.parts c.run_round-self.new.self c.run_round-self.result c.requires.may.is_hall c.requires.may.looper c.of_looper.ensures
+      looper = looper_then c.args.script.now c.args.hall.now c.args.now c.args.self.now c.run_round-self.new.d.dispatched c.of_looper.result.now c.close.new.parts c.run_round-self.new.self c.run_round-self.result c.requires.may.is_hall c.requires.may.looper c.of_looper.ensures
           (are_parts_then c.args.script.now c.args.hall.now c.args.self.now.number c.run_round-self.new.d.parts c.close.new.parts c.close.ensures.parts left)
           ran.keeps.same ran.ended ran.round (round_any _ c.args.now c.args.self.now.looper c.run_round-self.new.self c.run_round-self.result ran.looks) (sym c.has_ended.ensures ∙ c.if-has_ended.false) (sym c.gave_up.ensures ∙ c.if-gave_up.false);
       number = refl;

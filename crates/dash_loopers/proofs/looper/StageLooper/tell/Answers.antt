@@ -21,6 +21,7 @@ returns-then-place-number-clause-kept c =
       beside = subst (IsBeside l.looper) (sym c.tell.ensures.looper) record { pass = refl; journal = refl; idle_owed = refl; ended = refl };
       rest = may_self (rest_in l.parts);
       last = refl;
+      dispatched = refl;
     }
 
 pub returns-then-place-number-clause-heard : goal.returns-then-place-number-clause-heard
@@ -53,6 +54,7 @@ returns-clause-kept c =
       beside = record { pass = refl; journal = refl; idle_owed = refl; ended = refl };
       rest = may_same (rest_in l.parts) (rest_in (Some parts)) (sym (ap rest_in is));
       last = refl;
+      dispatched = refl;
     }
 
 pub returns-clause-heard : goal.returns-clause-heard

@@ -34,6 +34,7 @@ returns-clause-kept c =
         beside = record { pass = refl; journal = refl; idle_owed = refl; ended = refl };
         rest = may_same (rest_in l.parts) _ rest;
         last = refl;
+        dispatched = refl;
       },
       rest,
     )

@@ -9,5 +9,5 @@ pub returns-clause-routed : goal.returns-clause-routed
 returns-clause-routed g c =
     let p = c.args.self.now in
     unless_weaker _ _ c.did.result (λ h. record { awaits = refl; meets = h })
-    (dispatches_well p.place.script.now p.place.looper p.now p.began.now.value c.args.now c.args.m.now Handled c.as_post.result c.deliver.result c.did.result (held c.args.own.now) (held c.deliver.new.own) p.parts c.deliver.new.parts c.as_post.ensures c.deliver.ensures.leaves.own.lent c.requires.ready.taken c.deliver.ensures.delivers
+    (dispatches_well p.place.script.now p.place.looper p.now p.began.now.value p.dispatched c.max-self.result c.args.now c.args.m.now Handled c.as_post.result c.deliver.result c.did.result (held c.args.own.now) (held c.deliver.new.own) p.parts c.deliver.new.parts c.max-self.ensures c.as_post.ensures c.deliver.ensures.leaves.own.lent c.requires.ready.taken c.deliver.ensures.delivers
     c.did.ensures.no c.did.ensures.yes)

@@ -1,5 +1,5 @@
 use Rattle.dash_loopers.proofs.LooperPulses.{none_rounded, some_rounded}
-use Rattle.dash_loopers.proofs.by_clock.rounded_up.Goals as goal
+use Rattle.dash_loopers.proofs.looper.rounded_up.Goals as goal
 
 pub returns-in_err-nanos : goal.returns-in_err-nanos
 returns-in_err-nanos c = none_rounded _ _ c.in_err-nanos.was c.from_residual.ensures
