@@ -206,14 +206,6 @@ asks_posted u phase id delay now f g x y t moment post =
     ap asks_in (turn_records f g x y (frame.Posted c ∷ []) t left) ∙ filter_map-append asked_in f.view.own (frame.Posted c ∷ []) in
     subst (λ (d : ℕ). AsksFor (Posts phase d id None) f g) (due_is u delay now (eqb-true now (nanos_of u) moment)) asks
 
--- however a callback was placed, the pass asked for it
-pub placed_asks : (u phase id delay : ℕ) (f g : Pass) (a b : List Sending) → PlacesBy f g u a b phase id delay → AsksFor (Posts phase (frame_due u delay) id None) f g
-placed_asks u phase id delay f g a b (placed.Asked, is, (x, y, now, t, moment, (sch, post, same))) = asks_posted u phase id delay now f g x y t moment post
-placed_asks u phase id delay f g a b (placed.Already, is, (x, y, now, t, moment, (sch, post, same))) = asks_posted u phase id delay now f g x y t moment post
-placed_asks u phase id delay f g a b (placed.Sent, is, (x, y, now, t, moment, (sch, post, sent))) = asks_posted u phase id delay now f g x y t moment post
-placed_asks u phase id delay f g a b (placed.Refused, is, (x, y, now, t, moment, (sch, post, sent))) = asks_posted u phase id delay now f g x y t moment post
-placed_asks u phase id delay f g a b (placed.NoMemory, is, more) = absurd is
-
 abbrev Message : ℕ → ℕ → ℕ → Call
 Message h phase when = Post (record { handler = h; what = 2; arg = phase; obj = None; callback = None; when = when; asynchronous = true; slot = None })
 

@@ -28,9 +28,6 @@ first_of place q k = cond (ltb k place) (badge_for k q ∷ []) []
 abbrev pub PostersDealt : ℕ → List Sender → List Kit → List Kit → Type 0
 PostersDealt place posters before after = (q : Shared TableId) → AreNew q posters → EachGets (first_of place q) nothing before after
 
-pub posters_start : (posters : List Sender) (kits : List Kit) → PostersDealt 0 posters kits kits
-posters_start posters kits q new = each_same nothing (first_of 0 q) nothing nothing kits kits (λ k lt. sym (ap (λ b. cond b (badge_for k q ∷ []) []) (le-ltb k 0 (omega arith)))) (λ k lt. refl) (each_start kits)
-
 first_more : (place : ℕ) (q : Shared TableId) (k : ℕ) (p : Sender) → badge_of p ≡ badge_for place q → first_of place q k ++ only place (badge_of p ∷ []) k ≡ first_of (place + 1) q k
 first_more place q k p is = dite (dec_lt k place)
     (λ lt. (λ i. cond (lt-ltb k place lt i) (badge_for k q ∷ []) [] ++ cond (ne_eqb place k (λ e. absurd (omega (arith, e, lt))) i) (badge_of p ∷ []) []) ∙ sym (ap (λ b. cond b (badge_for k q ∷ []) []) (lt-ltb k (place + 1) (omega (arith, lt)))))
@@ -74,9 +71,6 @@ posters_all place posters orig kits is dealt q new =
 -- the passes with the first numbers have got to their kits
 abbrev pub PassesDealt : Script → ℕ → ℕ → List Pass → List Kit → List Kit → Type 0
 PassesDealt s looper number passes before after = (c : SharedFrames) → AreNewPasses c passes → EachGets nothing (λ k. given s looper c k 0 number) before after
-
-pub passes_start : (s : Script) (looper : ℕ) (passes : List Pass) (kits : List Kit) → PassesDealt s looper 0 passes kits kits
-passes_start s looper passes kits c new = each_same nothing nothing nothing (λ k. given s looper c k 0 0) kits kits (λ k lt. refl) (λ k lt. refl) (each_start kits)
 
 -- what is known of the pass at this place of new ones
 new_pass : (passes yielded rest : List Pass) (p : Pass) (number : ℕ) (c : SharedFrames) → yielded ++ p ∷ rest ≡ passes → number ≡ length yielded → AreNewPasses c passes → IsNewPass p × (frame_badge_of p ≡ frame_badge_for number c)

@@ -113,37 +113,7 @@ module _ (s : Script) (q : ℕ) (began : StageLooper) where
 
 -- ---- what a message tells by itself
 
--- a message that is intercepted doesn't go to the rules
-pub intercepted_once : (q u now : ℕ) (item : Item) (m : PostData) → m ≡ post_of item → (option_map_or (λ h. h == frame_handler q) (handler_of item) false || is_some (obj_of item)) ≡ true → IsAtOnce q m u now
-intercepted_once q u now (Message n p) m is taken none not_frame = absurd (
-    let object : is_some p.obj ≡ false = ap is_some (ap (λ (x : PostData). x.obj) (sym is) ∙ none) in
-    let handler : (p.handler == frame_handler q) ≡ false = ap (λ (x : PostData). x.handler == frame_handler q) (sym is) ∙ not_frame in
-    let wrong : false ≡ true = sym (λ i. handler i || object i) ∙ taken in
-    cc)
-intercepted_once q u now (SyncBarrier t w) m is taken none not_frame = absurd cc
-
 -- ---- a bell that was rung behind a delivery
-
--- what was lent, where the poster rang the bell behind it
-pub lent_rung : (a b : Holding) (p : Sender) → IsLent a b → IsSamePoster b.poster p → p.view.seen ≡ b.poster.view.seen → p.view.heard ≡ b.poster.view.heard → IsLent a (record { poster = p; pass = b.pass; journal = b.journal })
-lent_rung a b p lent same seen heard = record {
-  same = record {
-    table = same.table ∙ lent.same.table;
-    sender = same.sender ∙ lent.same.sender;
-    constants = same.constants ∙ lent.same.constants;
-    heard = heard ∙ lent.same.heard;
-    turns = (let before = lent.same.turns in let still = same.turns in omega (arith, before, still));
-    home = lent.same.home;
-    looper = lent.same.looper;
-  };
-  more = lent.more;
-  did = lent.did;
-  seen = seen ∙ lent.seen;
-  acts = lent.acts;
-  no_looks = lent.no_looks;
-  told = lent.told;
-  back = lent.back;
-}
 
 -- its calls are the same
 pub calls_rung : (p p' : Sender) → IsSamePoster p p' → p'.view.seen ≡ p.view.seen → calls_of p' ≡ calls_of p

@@ -95,16 +95,5 @@ host_leaves o k p q t u j is_p is_t e h =
 pub host_rung : {U : Type 0} (o k : HostOrigin U) (p q : Sender) (u : Tally) → o.poster ≡ p → k ≡ o → IsHost k q u → q.view.rung ≡ p.view.rung
 host_rung o k p q u is_p e h = h.on.rung ∙ ap (λ (a : Sender). a.view.rung) (ap (λ x. x.poster) e ∙ is_p)
 
--- what always holds
-pub unless_known : (r : Did) (P : Type 0) → P → Unless r P
-unless_known Yes P x = x
-unless_known No P x = x
-unless_known NoMemory P x = tt
-
-pub intercepts_known : (r : Did) (P Q : Type 0) → P → (r ≡ No → Q) → Intercepts r P Q
-intercepts_known Yes P Q x y = x
-intercepts_known No P Q x y = y refl
-intercepts_known NoMemory P Q x y = tt
-
 pub own_then : (a b c : Own) → IsSameOwn a b → IsSameOwn b c → IsSameOwn a c
 own_then a b c p q = record { poster = q.poster ∙ p.poster; pass = q.pass ∙ p.pass; journal = q.journal ∙ p.journal }

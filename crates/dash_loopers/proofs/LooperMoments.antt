@@ -88,11 +88,6 @@ unless_with Yes P Q f h = f h
 unless_with No P Q f h = f h
 unless_with NoMemory P Q f h = tt
 
-intercepts_with : (d : Did) (P Q R : Type 0) → (P → Q) → (d ≡ No → ⊥) → Intercepts d P R → (S : Type 0) → Intercepts d Q S
-intercepts_with Yes P Q R f never h S = f h
-intercepts_with No P Q R f never h S = absurd (never refl)
-intercepts_with NoMemory P Q R f never h S = tt
-
 module _ (m : Mode) (s : Script) (q : ℕ) (began : StageLooper) where
   -- what plays, and calls so, goes on by the clock
   at_more : (p p' : Sender) (acts : List _) (parts parts' : Parts) → p'.sender ≡ p.sender → AddsByClock m p p' → AreUntimed parts.others.items parts'.others.items

@@ -112,11 +112,6 @@ are_parts_then s hall n a b p h = record {
 pub serves_with : (s : Script) (hall : Hall) (n : ℕ) (a b : Parts) (w : Workplace) → AreSameParts a b → ServesAt s hall n a w → ServesAt s hall n b w
 serves_with s hall n a b w p h = record { looper = h.looper; place = h.place; are_parts = are_parts_then s hall n a b p h.are_parts }
 
--- the same at the end of a call that was lent what the looper has
-pub serves_then : (s : Script) (hall : Hall) (n : ℕ) (a b : Parts) (h k : Holding) → AreSameParts a b → IsSameLooper h k → ServesAt s hall n a (workplace h) → ServesAt s hall n b (workplace k)
-serves_then s hall n a b h k p same serves =
-    serves_with s hall n a b (workplace k) p (subst (λ (w : Workplace). ServesAt s hall n a w) (sym (workplace_same h k same)) serves)
-
 -- a poster of another looper's queue
 pub other_of : (s : Script) (hall : Hall) (n place j : ℕ) (parts : Parts) (p : Sender) (q : Shared TableId) → IsLooperOf s hall n → ArePartsOf s hall n parts → PlaceWithout n place j → slice_get parts.others.items j ≡ Some p → slice_get hall.queues.items place ≡ Some q → IsOf p q
 other_of s hall n place j parts p q l are w at at' =

@@ -1,3 +1,2 @@
 pub mod FrameLoops
 pub mod Keeping
-pub mod Ringing

@@ -51,20 +51,11 @@ pub fn run_frames_here<
 {
     let alloc = rt.alloc();
     let Opened {
-        queue,
-        pool,
+        parts,
         mut looper,
         senders,
-        sources,
     } = open(alloc, settings.looper)?;
-    let mailbox = Mailbox {
-        rt,
-        alloc,
-        clock,
-        queue: &queue,
-        pool: &pool,
-        sources: &sources,
-    };
+    let mailbox = parts.mailbox(rt, alloc, clock);
     before(&mailbox, senders);
     run_frame_looper(&mailbox, &mut looper, settings.period, handlers)
 }
@@ -135,24 +126,15 @@ pub fn run_frames_beside<
 {
     let alloc = rt.alloc();
     let Opened {
-        queue,
-        pool,
+        parts,
         looper,
         mut senders,
-        sources,
     } = open_with(
         alloc,
         settings.looper,
         u32::from(settings.looper.senders) + 1,
     )?;
-    let mailbox = Mailbox {
-        rt,
-        alloc,
-        clock,
-        queue: &queue,
-        pool: &pool,
-        sources: &sources,
-    };
+    let mailbox = parts.mailbox(rt, alloc, clock);
     let last = senders.next(&mailbox);
     side_by_side(
         &mailbox,
@@ -183,20 +165,11 @@ pub fn run_frames_with<
 {
     let alloc = rt.alloc();
     let Opened {
-        queue,
-        pool,
+        parts,
         looper,
         senders,
-        sources,
     } = open(alloc, settings.looper)?;
-    let mailbox = Mailbox {
-        rt,
-        alloc,
-        clock,
-        queue: &queue,
-        pool: &pool,
-        sources: &sources,
-    };
+    let mailbox = parts.mailbox(rt, alloc, clock);
     side_by_side(
         &mailbox,
         looper,

@@ -1,13 +1,6 @@
-pub mod ParcelLists
-pub mod Keeping
-pub mod Admissions
-pub mod Silence
-pub mod TurnSteps
-pub mod Driving
-pub mod Handing
-pub mod Gatherings
-pub mod Playing
-pub mod Keepings
 pub mod Bads
 pub mod Limits
+pub mod Playing
+pub mod Handing
+pub mod Gatherings
 pub mod Ending

@@ -1,7 +1,6 @@
 //! A run in which the main looper posts what the threads put into an inbox.
-ghost use Rattle.std.specs.Prelude.{◌≡◌, ◌<◌, ◌≤◌, [], All, IfOk, OnOk};
+ghost use Rattle.std.specs.Prelude.{◌≡◌, ◌<◌, ◌≤◌, [], IfOk, OnOk};
 ghost use Rattle.dash_script.specs.Reading.{HasText};
-ghost use Rattle.message_pool.specs.Obtain.{IsNodeOf};
 ghost use Rattle.inbox_queue.specs.InboxRun.{AreOfBlocks};
 ghost use Rattle.inbox_queue.specs.MainQueue.{HandsAreAt, threads_of, seen, AreSilent};
 ghost use Rattle.inbox_queue.specs.Opened.{IsWholeRun, IsOpen, IsInboxPlayed, IsKeptRecord, Runs, RefusesBad};
@@ -11,11 +10,10 @@ use crate::gathering::gather;
 use crate::main_queue::{Hands, Place};
 use crate::parcel::Parcel;
 use dash_script::Script;
+use handler_post::recycle_all;
 use loop_io::Gate;
 use loop_model::{NoMemory, QueueRecord, Sequence};
-use message_list::NodeList;
-use message_pool::{Pool, PoolClaim, PoolPass};
-use message_slot::Message;
+use message_pool::{Pool, PoolClaim};
 use shared_queue::{Poster, SharedQueue};
 use std::alloc::Global;
 use std::sync::Wait;
@@ -103,16 +101,6 @@ fn play<R: Threads + Wait + Sync, G: Gate + Sync>(
     place.move_to(rt, hands, script.end)?;
     place.halt(rt, hands, script.end);
     Ok(admitted)
-}
-
-fn recycle_all(pool: &Pool, pass: &mut PoolPass, mut nodes: NodeList<Message<PoolClaim>>)
-    requires pass { pass.old.home ≡ pool.now }
-    requires nodes { All (IsNodeOf pool.now) nodes }
-    ensures home { pass.new.home ≡ pool.now }
-{
-    while let Some(node) = nodes.pop_front() {
-        pool.recycle(pass, node);
-    }
 }
 
 /// The history of the queue, at its end.

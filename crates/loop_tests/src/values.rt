@@ -103,20 +103,11 @@ fn a_value_comes_with_the_number_of_its_message(rt: HostRuntime) -> Result<(), F
     let alloc = rt.alloc();
     let clock = StepClock::new(100);
     let Opened {
-        queue,
-        pool,
+        parts,
         mut looper,
         senders,
-        sources,
     } = open_for_values(alloc, Settings::new(1))?;
-    let mailbox = Mailbox {
-        rt: &rt,
-        alloc,
-        clock: &clock,
-        queue: &queue,
-        pool: &pool,
-        sources: &sources,
-    };
+    let mailbox = parts.mailbox(&rt, alloc, &clock);
     begin(&mailbox, senders);
     let reader = run_value_looper(&mailbox, &mut looper, Reader { told: 0 })?;
     assert!(rt; reader.told == 18290730);
@@ -170,20 +161,11 @@ fn a_value_that_is_removed_or_refused_comes_back(rt: HostRuntime) -> Result<(), 
     let alloc = rt.alloc();
     let clock = StepClock::new(1);
     let Opened {
-        queue,
-        pool,
+        parts,
         looper,
         senders,
-        sources,
     } = open_for_values(alloc, Settings::new(1))?;
-    let mailbox = Mailbox {
-        rt: &rt,
-        alloc,
-        clock: &clock,
-        queue: &queue,
-        pool: &pool,
-        sources: &sources,
-    };
+    let mailbox = parts.mailbox(&rt, alloc, &clock);
     assert!(rt; handed_back(&mailbox, senders) == (4, 6));
     Ok(())
 }

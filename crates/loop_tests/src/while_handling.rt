@@ -207,25 +207,16 @@ fn what_runs_between_messages_changes_what_is_watched(rt: HostRuntime) -> Result
     let alloc = rt.alloc();
     let clock = StepClock::new(100);
     let Opened {
-        queue,
-        pool,
+        parts,
         mut looper,
         mut senders,
-        sources,
     } = open(alloc, Settings::new(1))?;
-    let mailbox = Mailbox {
-        rt: &rt,
-        alloc,
-        clock: &clock,
-        queue: &queue,
-        pool: &pool,
-        sources: &sources,
-    };
+    let mailbox = parts.mailbox(&rt, alloc, &clock);
     mailbox.add_idle_handler(1)?;
     mailbox.add_idle_handler(2)?;
-    sources.lock(&rt).fds.set(5, 1, 3)?;
+    parts.sources.lock(&rt).fds.set(5, 1, 3)?;
     for events in [1, 1, 2, 2] {
-        sources.lock(&rt).fds.hand_in(5, events)?;
+        parts.sources.lock(&rt).fds.hand_in(5, events)?;
     }
     let mut sender = senders.next(&mailbox);
     sender.line(&mailbox).send_delayed(HANDLER.runnable(1), 700);
@@ -237,6 +228,6 @@ fn what_runs_between_messages_changes_what_is_watched(rt: HostRuntime) -> Result
     let changing = run_looper(&mailbox, &mut looper, changing)?;
     assert!(rt; changing.callbacks == 2);
     assert!(rt; changing.told == 37121);
-    assert!(rt; sources.lock(&rt).fds.watched(5).is_none());
+    assert!(rt; parts.sources.lock(&rt).fds.watched(5).is_none());
     Ok(())
 }

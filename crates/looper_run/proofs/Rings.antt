@@ -1,9 +1,10 @@
--- Counts of the rings of a poster.
+-- Counts of the rings of a poster, and what a ring keeps.
 use Rattle.std.proofs.Common.{◌≡◌, ℕ, ◌+◌, ◌*◌, ◌/◌, ◌%◌, ◌^◌, sym, ap, ◌∙◌, arith}
 use Rattle.std.proofs.Math.Nat.{add-mul-mod_self_right}
 use Rattle.std.proofs.lemmas.Nat.{div-add-mod'}
-use Rattle.looper_run.specs.Holding.{Sender}
-use Rattle.looper_run.specs.Tests.{Rings}
+use Rattle.shared_queue.specs.Known.{IsSamePoster}
+use Rattle.looper_run.specs.Holding.{Sender, Holding}
+use Rattle.looper_run.specs.Tests.{Rings, IsLent}
 
 mod_plus : (n b m : ℕ) → (n + b) % m ≡ (n % m + b) % m
 mod_plus n b m =
@@ -29,3 +30,25 @@ rings_then p q r k m n a b =
       sum,
       b.2 ∙ (same_plus m (k + a.0) b.0 (2 ^ 64) a.2 ∙ ap (λ (x : ℕ). x % 2 ^ 64) counts),
     )
+
+-- what went on as a dispatcher may has still gone on so once the poster rang
+pub lent_rung : (a b : Holding) (p : Sender) → IsLent a b → IsSamePoster b.poster p → p.view.seen ≡ b.poster.view.seen → p.view.heard ≡ b.poster.view.heard
+    → IsLent a (record { poster = p; pass = b.pass; journal = b.journal })
+lent_rung a b p lent same seen heard = record {
+  same = record {
+    table = same.table ∙ lent.same.table;
+    sender = same.sender ∙ lent.same.sender;
+    constants = same.constants ∙ lent.same.constants;
+    heard = heard ∙ lent.same.heard;
+    turns = (let before = lent.same.turns in let still = same.turns in omega (arith, before, still));
+    home = lent.same.home;
+    looper = lent.same.looper;
+  };
+  more = lent.more;
+  did = lent.did;
+  seen = seen ∙ lent.seen;
+  acts = lent.acts;
+  no_looks = lent.no_looks;
+  told = lent.told;
+  back = lent.back;
+}

@@ -33,11 +33,11 @@ pub record IsQueueLooper (queue : Shared TableId) (pool : TableId) (l : Looping)
 
 -- a queue that nobody has used, with its looper and so many senders, which goes by a clock; it is as the settings say
 pub record IsOpened {E P : Type 0} (settings : Settings) (count : ℕ) (o : Opened E P) : Type 0 where
-  pub looper : IsQueueLooper o.queue o.pool o.looper
-  pub number : (o.queue.constants.looper ≡ settings.looper) × (o.looper.held.journal.looper ≡ settings.looper)
-  pub main : o.queue.constants.setting.main ≡ settings.main
+  pub looper : IsQueueLooper o.parts.queue o.parts.pool o.looper
+  pub number : (o.parts.queue.constants.looper ≡ settings.looper) × (o.looper.held.journal.looper ≡ settings.looper)
+  pub main : o.parts.queue.constants.setting.main ≡ settings.main
   pub unused : IsNewPoster o.looper.held.poster
   pub untold : o.looper.held.journal.acts ≡ []
-  pub free : o.queue.constants.setting.lockstep ≡ false
-  pub senders : AreSenders o.queue o.pool o.senders
+  pub free : o.parts.queue.constants.setting.lockstep ≡ false
+  pub senders : AreSenders o.parts.queue o.parts.pool o.senders
   pub many : length o.senders.posters.items ≡ count

@@ -118,20 +118,11 @@ pub fn run_here<
 {
     let alloc = rt.alloc();
     let Opened {
-        queue,
-        pool,
+        parts,
         mut looper,
         senders,
-        sources,
     } = open(alloc, settings)?;
-    let mailbox = Mailbox {
-        rt,
-        alloc,
-        clock,
-        queue: &queue,
-        pool: &pool,
-        sources: &sources,
-    };
+    let mailbox = parts.mailbox(rt, alloc, clock);
     before(&mailbox, senders);
     run_looper(&mailbox, &mut looper, handlers)
 }
@@ -200,19 +191,10 @@ pub fn run_beside<
 {
     let alloc = rt.alloc();
     let Opened {
-        queue,
-        pool,
+        parts,
         looper,
         senders,
-        sources,
     } = open_with(alloc, settings, u32::from(settings.senders) + 1)?;
-    let mailbox = Mailbox {
-        rt,
-        alloc,
-        clock,
-        queue: &queue,
-        pool: &pool,
-        sources: &sources,
-    };
+    let mailbox = parts.mailbox(rt, alloc, clock);
     side_by_side(&mailbox, looper, senders, handlers, work)
 }

@@ -19,7 +19,9 @@ pub use frames::{Draw, Drawing, Outbox};
 pub use handlers::{Handle, Handled, Handling, Msg, did};
 pub use laws::value_is_sent;
 pub use lines::Line;
-pub use mailbox::{Mailbox, Opened, Sender, Senders, Settings, open, open_for_values, open_with};
+pub use mailbox::{
+    Mailbox, MailboxParts, Opened, Sender, Senders, Settings, open, open_for_values, open_with,
+};
 pub use records::LetGo;
 pub use value_handlers::{HandleValues, HandlingValues};
 pub use value_looper::{WorkBeside, run_value_looper, run_values_beside};

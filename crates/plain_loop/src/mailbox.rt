@@ -100,19 +100,48 @@ impl<E: Recorder, P: Payload> Senders<E, P> {
     }
 }
 
-/// A queue that nobody has used, with its pool, its looper and its senders.
+/// What a mailbox shows: a queue, the pool of its messages, and what its looper watches.
 #[derive(Drop)]
-pub struct Opened<E: Recorder = Unkept, P: Payload = ()> {
+pub struct MailboxParts<E: Recorder = Unkept, P: Payload = ()> {
     /// The queue.
     pub queue: SharedQueue<PoolClaim<P>, E>,
     /// The pool of its messages.
     pub pool: Pool<P>,
+    /// The looper's idle handlers and watched descriptors.
+    pub sources: Mutex<Sources>,
+}
+
+impl<E: Recorder, P: Payload> MailboxParts<E, P> {
+    /// The mailbox, with what calls on it ask for beside.
+    pub fn mailbox<'a, R: Wait, C: Clock>(
+        &'a self,
+        rt: &'a R,
+        alloc: Global,
+        clock: &'a C,
+    ) -> Mailbox<'a, R, C, E, P>
+        ensures queue { (result.queue.now ≡ self.now.queue) × (result.pool.now ≡ self.now.pool) }
+        ensures clock { result.clock.now ≡ clock.now }
+    {
+        Mailbox {
+            rt,
+            alloc,
+            clock,
+            queue: &self.queue,
+            pool: &self.pool,
+            sources: &self.sources,
+        }
+    }
+}
+
+/// A queue that nobody has used, with its pool, its looper and its senders.
+#[derive(Drop)]
+pub struct Opened<E: Recorder = Unkept, P: Payload = ()> {
+    /// The queue with its pool. There are no idle handlers and no watched descriptors.
+    pub parts: MailboxParts<E, P>,
     /// Its looper.
     pub looper: Looper<E, P>,
     /// Its senders, as many as the settings say.
     pub senders: Senders<E, P>,
-    /// Its idle handlers and watched descriptors, of which there are none.
-    pub sources: Mutex<Sources>,
 }
 
 /// A queue with its pool, its looper and as many senders as the settings say (`Looper.prepare`). What it opens is `Opened<Unkept>` for a
@@ -165,15 +194,18 @@ pub(crate) fn open_queue<E: Recorder, P: Payload>(
     )?;
     let own = last_of(&queue, &mut posters);
     let looper = Looper::make(alloc, settings.looper, own, pass.split(&pool));
+    let sources = Mutex::new(Sources {
+        idle: IdleSet::empty(alloc),
+        fds: FdTable::empty(alloc),
+    });
     Ok(Opened {
-        queue,
-        pool,
+        parts: MailboxParts {
+            queue,
+            pool,
+            sources,
+        },
         looper,
         senders: Senders { posters, pass },
-        sources: Mutex::new(Sources {
-            idle: IdleSet::empty(alloc),
-            fds: FdTable::empty(alloc),
-        }),
     })
 }
 

@@ -179,19 +179,10 @@ pub fn run_values_beside<
 {
     let alloc = rt.alloc();
     let Opened {
-        queue,
-        pool,
+        parts,
         looper,
         senders,
-        sources,
     } = open_queue(alloc, settings, u32::from(settings.senders) + 1)?;
-    let mailbox = Mailbox {
-        rt,
-        alloc,
-        clock,
-        queue: &queue,
-        pool: &pool,
-        sources: &sources,
-    };
+    let mailbox = parts.mailbox(rt, alloc, clock);
     side_by_side(&mailbox, looper, senders, handlers, work)
 }

@@ -85,21 +85,12 @@ pub fn soak<R: Wait + time::Clock, E: LetGo>(
     count: u64,
 ) -> Result<Soaked, NoMemory> {
     let Opened {
-        queue,
-        pool,
+        parts,
         mut looper,
         senders,
-        sources,
     } = open::<E>(alloc, Settings::new(1))?;
     let clock = StepClock::new(STEP);
-    let mailbox = Mailbox {
-        rt,
-        alloc,
-        clock: &clock,
-        queue: &queue,
-        pool: &pool,
-        sources: &sources,
-    };
+    let mailbox = parts.mailbox(rt, alloc, &clock);
     start(&mailbox, senders);
     let again = Again {
         left: count,

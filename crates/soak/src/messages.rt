@@ -97,20 +97,11 @@ fn post_and_quit<R: Threads + Wait + time::Clock + Sync, C: Clock + Sync, E: Let
 /// A looper whose queue quits at once, and refuses posts.
 fn refuse<R: Wait + time::Clock, C: Clock, E: LetGo>(rt: &R, alloc: Global, clock: &C) -> Done {
     let Opened {
-        queue,
-        pool,
+        parts,
         mut looper,
         mut senders,
-        sources,
     } = open::<E>(alloc, Settings::new(1))?;
-    let mailbox = Mailbox {
-        rt,
-        alloc,
-        clock,
-        queue: &queue,
-        pool: &pool,
-        sources: &sources,
-    };
+    let mailbox = parts.mailbox(rt, alloc, clock);
     let window = Window::new();
     let again = Again {
         window: &window,
@@ -155,20 +146,11 @@ fn post_four<R: Threads + Wait + time::Clock + Sync, C: Clock + Sync, E: LetGo +
     posts: u64,
 ) -> Done {
     let Opened {
-        queue,
-        pool,
+        parts,
         looper,
         senders,
-        sources,
     } = open::<E>(alloc, Settings::new(6))?;
-    let mailbox = Mailbox {
-        rt,
-        alloc,
-        clock,
-        queue: &queue,
-        pool: &pool,
-        sources: &sources,
-    };
+    let mailbox = parts.mailbox(rt, alloc, clock);
     post_beside(&mailbox, looper, senders, posts)
 }
 

@@ -1,4 +1,4 @@
-use Rattle.inbox_queue.proofs.Keeping.{forks_as}
+use Rattle.inbox_queue.proofs.Gatherings.{forks_as}
 use Rattle.inbox_queue.proofs.inbox.deal.Goals as goal
 
 pub another-pass-requires-clause-rule : goal.another-pass-requires-clause-rule

@@ -1,4 +1,4 @@
-use Rattle.inbox_queue.proofs.Keeping.{takes_as}
+use Rattle.inbox_queue.proofs.Gatherings.{takes_as}
 use Rattle.inbox_queue.proofs.inbox.take_rest.Goals as goal
 
 pub pop_as-requires-clause-rule : goal.pop_as-requires-clause-rule

@@ -2,8 +2,7 @@ use Rattle.std.proofs.Common.{◌≡◌, ◌++◌, ◌∷◌, [], ◌∙◌, Lis
 use Rattle.shared_queue.specs.Ends.{AreInOrder, HasCalls, HaveSealed}
 use Rattle.run_model.specs.Planned.{history_of}
 use Rattle.inbox_queue.specs.Turned.{Sender}
-use Rattle.inbox_queue.proofs.Keepings.{last_sealed}
-use Rattle.inbox_queue.proofs.Ending.{all_in_order, as_kept}
+use Rattle.inbox_queue.proofs.Ending.{last_sealed, all_in_order, as_kept}
 use Rattle.inbox_queue.proofs.run.keep.Goals as goal
 
 pub retire-requires-clause-posters : goal.retire-requires-clause-posters

@@ -4,8 +4,7 @@ use Rattle.dash_script.specs.declared.script.Block.{Block}
 use Rattle.inbox_queue.specs.declared.parcel.Parcel.{Parcel}
 use Rattle.inbox_queue.specs.InboxRun.{AreOfBlocks, IsOfBlock}
 use Rattle.inbox_queue.specs.MainQueue.{threads_of, seen, AreSilent, HasMoved, HasPosted}
-use Rattle.inbox_queue.proofs.Driving.{Led}
-use Rattle.inbox_queue.proofs.Playing.{Ran, ran_none, play_next, of_blocks_next, play_end}
+use Rattle.inbox_queue.proofs.Playing.{Led, Ran, ran_none, play_next, of_blocks_next, play_end}
 use Rattle.inbox_queue.proofs.run.play.Goals as goal
 
 pub loop-block-init : goal.loop-block-init

@@ -3,7 +3,8 @@ use Rattle.loop_model.specs.declared.entry.Entry.{Entry}
 use Rattle.dash_loopers.specs.Played.{calls_of, Delivers}
 use Rattle.std.specs.Prelude.{OnOk}
 use Rattle.looper_run.specs.Holding.{held}
-use Rattle.dash_loopers.proofs.LooperByClock.{lent_rung, calls_rung}
+use Rattle.looper_run.proofs.Rings.{lent_rung}
+use Rattle.dash_loopers.proofs.LooperByClock.{calls_rung}
 use Rattle.dash_loopers.proofs.LooperClock.{delivers_rung}
 use Rattle.dash_loopers.proofs.player.Place.deliver_and_ring.Goals as goal
 

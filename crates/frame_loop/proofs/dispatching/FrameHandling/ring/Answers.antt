@@ -1,8 +1,7 @@
 use Rattle.std.proofs.Common.{rules, refl}
 use Rattle.looper_run.specs.Holding.{held}
 use Rattle.looper_run.proofs.Working.{lent_self}
-use Rattle.looper_run.proofs.Rings.{no_rings}
-use Rattle.frame_loop.proofs.Ringing.{lent_rung}
+use Rattle.looper_run.proofs.Rings.{no_rings, lent_rung}
 use Rattle.frame_loop.proofs.dispatching.FrameHandling.ring.Goals as goal
 
 pub returns-then-is_none-clause-keeps : goal.returns-then-is_none-clause-keeps

@@ -3,8 +3,7 @@ use mathlib.Core.List.{IsPrefix}
 use Rattle.inbox_queue.specs.Plans.{parcels_of, from_sender}
 use Rattle.inbox_queue.specs.Passes.{known}
 use Rattle.inbox_queue.specs.Handed.{Admitting}
-use Rattle.inbox_queue.proofs.Keeping.{takes_as}
-use Rattle.inbox_queue.proofs.Admissions.{admission}
+use Rattle.inbox_queue.proofs.Gatherings.{takes_as, admission}
 use Rattle.inbox_queue.proofs.admitter.Admitter.admit.Goals as goal
 
 pub pop_as-requires-clause-rule : goal.pop_as-requires-clause-rule

@@ -1,4 +1,4 @@
-use Rattle.inbox_queue.proofs.Keeping.{merges_as}
+use Rattle.inbox_queue.proofs.Gatherings.{merges_as}
 use Rattle.inbox_queue.proofs.admitter.Admitter.take_in.Goals as goal
 
 pub absorb-requires-clause-rule : goal.absorb-requires-clause-rule

@@ -1,4 +1,4 @@
-use Rattle.inbox_queue.proofs.Keeping.{begins}
+use Rattle.inbox_queue.proofs.Gatherings.{begins}
 use Rattle.inbox_queue.proofs.inbox.Inbox.make.Goals as goal
 
 pub with_rule-requires : goal.with_rule-requires

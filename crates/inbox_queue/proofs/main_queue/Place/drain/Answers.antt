@@ -1,6 +1,6 @@
 use Rattle.std.proofs.Common.{◌∙◌}
 use Rattle.inbox_queue.specs.MainQueue.{threads_of, seen}
-use Rattle.inbox_queue.proofs.Driving.{look_more}
+use Rattle.inbox_queue.proofs.Playing.{look_more}
 use Rattle.inbox_queue.proofs.main_queue.Place.drain.Goals as goal
 
 pub loop-preserved : goal.loop-preserved

@@ -1,6 +1,6 @@
 use Rattle.std.proofs.Common.{◌≡◌}
 use Rattle.inbox_queue.specs.MainQueue.{HandsAreAt, threads_of, seen, LookedAlone}
-use Rattle.inbox_queue.proofs.Driving.{Led}
+use Rattle.inbox_queue.proofs.Playing.{Led}
 use Rattle.inbox_queue.proofs.main_queue.Place.drain.Given as goal
 
 abbrev pub invariant-loop : goal.invariant-loop

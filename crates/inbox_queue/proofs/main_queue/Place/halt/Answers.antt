@@ -1,6 +1,6 @@
 use Rattle.std.proofs.Common.{◌∙◌}
 use Rattle.inbox_queue.specs.MainQueue.{threads_of, seen}
-use Rattle.inbox_queue.proofs.Driving.{halt_last, halt_more}
+use Rattle.inbox_queue.proofs.Playing.{halt_last, halt_more}
 use Rattle.inbox_queue.proofs.main_queue.Place.halt.Goals as goal
 
 pub returns-then-halt_once-clause-made : goal.returns-then-halt_once-clause-made

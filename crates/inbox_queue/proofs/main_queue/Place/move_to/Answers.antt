@@ -1,7 +1,7 @@
 use Rattle.std.proofs.Common.{◌∙◌, refl}
 use Rattle.inbox_queue.specs.declared.main_queue.Move.TheVariants.{There}
 use Rattle.inbox_queue.specs.MainQueue.{threads_of, seen}
-use Rattle.inbox_queue.proofs.Driving.{drive_none, drive_start, drive_last, drive_more, drive_stays}
+use Rattle.inbox_queue.proofs.Playing.{drive_none, drive_start, drive_last, drive_more, drive_stays}
 use Rattle.inbox_queue.proofs.main_queue.Place.move_to.Goals as goal
 
 pub returns-then-time-eq0-clause-made : goal.returns-then-time-eq0-clause-made

@@ -1,6 +1,6 @@
 use Rattle.std.proofs.Common.{◌∙◌, arith}
 use Rattle.inbox_queue.specs.MainQueue.{threads_of, seen}
-use Rattle.inbox_queue.proofs.Driving.{post_next}
+use Rattle.inbox_queue.proofs.Playing.{post_next}
 use Rattle.inbox_queue.proofs.main_queue.Place.post_all.Goals as goal
 
 pub loop-parcel-preserved : goal.loop-parcel-preserved

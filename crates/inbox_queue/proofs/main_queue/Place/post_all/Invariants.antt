@@ -1,6 +1,6 @@
 use Rattle.std.proofs.Common.{◌≡◌, ◌≤◌, length, take}
 use Rattle.inbox_queue.specs.MainQueue.{HandsAreAt, threads_of, seen, HasPosted}
-use Rattle.inbox_queue.proofs.Driving.{Led}
+use Rattle.inbox_queue.proofs.Playing.{Led}
 use Rattle.inbox_queue.proofs.main_queue.Place.post_all.Given as goal
 
 abbrev pub invariant-loop-parcel : goal.invariant-loop-parcel

@@ -1,4 +1,4 @@
-use Rattle.inbox_queue.proofs.Keeping.{puts_as}
+use Rattle.inbox_queue.proofs.Gatherings.{puts_as}
 use Rattle.inbox_queue.proofs.sender.InboxSender.put.Goals as goal
 
 pub push_as-requires-clause-rule : goal.push_as-requires-clause-rule
