@@ -38,7 +38,7 @@ use Rattle.run_model.specs.Run.{IsRecordOf, IsControlled, record_setting}
 use Rattle.run_model.specs.Parts.{all_entries, is_quit_by_others, disposed_count}
 use Rattle.run_model.specs.Control.{is_advance, is_halt, is_quit, is_safe_quit, is_empty, is_closing, are_controls, is_controlled}
 use Rattle.run_model.proofs.RunLaws.{entries_by-append, entries_by-own, entries_by-unchanged}
-use Rattle.run_model.proofs.ControlLaws.{are_advances as are_advances_in, are_controls-last, are_controls-quit}
+use Rattle.run_model.proofs.ControlLaws.{advance_alone, are_advances as are_advances_in, are_controls-last, are_controls-quit}
 use Rattle.dash_hall.specs.declared.hall.Hall.{Hall}
 use Rattle.dash_hall.specs.declared.kit.Kit.{Kit}
 use Rattle.dash_stage.specs.declared.control.Controller.{Controller}
