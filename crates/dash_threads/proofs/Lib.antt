@@ -1,13 +1,4 @@
-pub mod ThreadPlaces
-pub mod ThreadText
-pub mod ThreadPlans
-pub mod ThreadSteps
-pub mod ThreadLabels
-pub mod ThreadRuns
 pub mod ThreadBlocks
-pub mod ThreadFrames
-pub mod ThreadFrameRuns
-pub mod ThreadHears
-pub mod ThreadNudges
-pub mod ThreadBells
+pub mod ThreadLabels
 pub mod ThreadShares
+pub mod ThreadRuns

@@ -1,7 +1,7 @@
 use Rattle.std.proofs.Common.{rules}
 use Rattle.dash_hall.proofs.Growing.{goes_nowhere}
 use Rattle.dash_hall.proofs.HostClock.{begins_by_clock}
-use Rattle.dash_threads.proofs.ThreadFrames.{frame_made}
+use Rattle.dash_threads.proofs.ThreadRuns.{frame_made}
 use Rattle.dash_threads.proofs.thread.post_frame.Goals as goal
 
 pub post_callback-requires-clause-ready : goal.post_callback-requires-clause-ready

@@ -9,8 +9,7 @@ use Rattle.dash_threads.specs.declared.thread.PostingThread.{PostingThread}
 use Rattle.dash_threads.specs.AtWork.{WorksOn}
 use Rattle.dash_threads.specs.Planning.{call_planned}
 use Rattle.dash_threads.specs.Threads.{CallsAt, Called, CalledIf, MakesPlanned}
-use Rattle.dash_threads.proofs.ThreadPlaces.{its_poster, its_home, works_called}
-use Rattle.dash_threads.proofs.ThreadSteps.{on_ok, calls_at_set, calls_nowhere}
+use Rattle.dash_threads.proofs.ThreadRuns.{its_poster, its_home, works_called, on_ok, calls_at_set, calls_nowhere}
 use Rattle.dash_threads.proofs.thread.PostingThread.make_call.Goals as goal
 use Rattle.dash_threads.proofs.thread.PostingThread.make_call.Goals.{else-place-len-via-then-place-len+else-place-len-2, else-place-len-via-else-place-len}
 

@@ -1,14 +1,11 @@
 use Rattle.std.proofs.Common.{◌<◌, ◌∙◌, length, refl, arith, ap}
 use Rattle.std.proofs.Math.Seq.{map-set_same}
-use Rattle.dash_hall.specs.Kits.{badge_of}
-use Rattle.dash_hall.proofs.Badges.{posters_kept}
+use Rattle.dash_hall.specs.Kits.{badge_of, badge_for}
+use Rattle.dash_hall.proofs.Badges.{posters_kept, alike_length}
 use Rattle.dash_threads.specs.Threads.{known_of}
-use Rattle.dash_hall.specs.Kits.{badge_for}
-use Rattle.dash_hall.proofs.Badges.{alike_length}
 use Rattle.dash_hall.proofs.PassesHearing.{passes_heard_self}
-use Rattle.dash_threads.proofs.ThreadBells.{ring_set, ring_none}
-use Rattle.dash_threads.proofs.ThreadSteps.{rings_none}
-use Rattle.dash_threads.proofs.ThreadPlaces.{its_poster}
+use Rattle.dash_threads.proofs.ThreadShares.{ring_set, ring_none}
+use Rattle.dash_threads.proofs.ThreadRuns.{rings_none, its_poster}
 use Rattle.dash_threads.proofs.thread.PostingThread.nudge.Goals as goal
 
 pub nudge-requires-after_bounds : goal.nudge-requires-after_bounds

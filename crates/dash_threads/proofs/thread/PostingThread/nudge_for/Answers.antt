@@ -1,6 +1,6 @@
 use Rattle.std.proofs.Common.{ℕ, Option, sym, ap, ◌∙◌}
 use Rattle.dash_threads.specs.Threads.{rungs_of, more_for}
-use Rattle.dash_threads.proofs.ThreadSteps.{rings_none}
+use Rattle.dash_threads.proofs.ThreadRuns.{rings_none}
 use Rattle.dash_threads.proofs.thread.PostingThread.nudge_for.Goals as goal
 
 pub returns-in-Some : goal.returns-in-Some

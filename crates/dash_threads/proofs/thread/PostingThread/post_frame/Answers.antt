@@ -2,11 +2,8 @@ use Rattle.std.proofs.Common.{◌<◌, ◌∙◌, sym, subst, length, arith, ap,
 use Rattle.std.proofs.Math.Seq.{map-set_same}
 use Rattle.looper_run.specs.Holding.{Sender}
 use Rattle.dash_hall.specs.Kits.{badge_of, badge_for, frame_badge_of, frame_badge_for}
-use Rattle.dash_threads.proofs.ThreadSteps.{on_ok, works_still}
-use Rattle.dash_threads.proofs.ThreadFrameRuns.{frame_progress, frame_within}
-use Rattle.dash_threads.proofs.ThreadText.{few_loopers}
+use Rattle.dash_threads.proofs.ThreadRuns.{on_ok, works_still, frame_progress, frame_within, few_loopers, its_poster, its_home, its_pass, its_phases, its_mode}
 use Rattle.dash_hall.proofs.Badges.{alike_length, posters_kept, gone_badge, passes_kept, queue_count, choreographer_count}
-use Rattle.dash_threads.proofs.ThreadPlaces.{its_poster, its_home, its_pass, its_phases, its_mode}
 use Rattle.dash_threads.proofs.thread.PostingThread.post_frame.Goals as goal
 use Rattle.dash_threads.proofs.thread.PostingThread.post_frame.Goals.{else-place-len-via-then-place-len+then-place-len-2+then-place-len-3+then-place-len-4+else-post-phases, else-place-len-via-then-place-len+then-place-len-2+then-place-len-3+else-place-len-4, else-place-len-via-then-place-len+then-place-len-2+else-place-len-3, else-place-len-via-then-place-len+else-place-len-2, else-place-len-via-else-place-len}
 use Rattle.handler_post.specs.declared.handler.Handler.{Handler}

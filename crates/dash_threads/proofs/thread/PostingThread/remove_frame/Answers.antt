@@ -1,8 +1,5 @@
 use Rattle.std.proofs.Common.{None, ◌<◌, ℕ, subst, length, arith, refl, rules}
-use Rattle.dash_threads.proofs.ThreadFrames.{removal_asks}
-use Rattle.dash_threads.proofs.ThreadFrameRuns.{unframe_progress, unframe_within}
-use Rattle.dash_threads.proofs.ThreadSteps.{works_still}
-use Rattle.dash_threads.proofs.ThreadPlaces.{its_pass, its_phases, thread_with_pass}
+use Rattle.dash_threads.proofs.ThreadRuns.{removal_asks, unframe_progress, unframe_within, works_still, its_pass, its_phases, thread_with_pass}
 use Rattle.dash_hall.proofs.Badges.{alike_length, frame_turn_badge, choreographer_count}
 use Rattle.dash_threads.proofs.thread.PostingThread.remove_frame.Goals as goal
 use Rattle.dash_threads.proofs.thread.PostingThread.remove_frame.Goals.{else-place-len-via-then-place-len+then-place-len-2+else-phase-phases, else-place-len-via-then-place-len+else-place-len-2, else-place-len-via-else-place-len}

@@ -3,10 +3,8 @@ use Rattle.std.specs.Prelude.{OnOk}
 use Rattle.dash_script.specs.declared.script.Command.{Command}
 use Rattle.dash_hall.specs.Kits.{badge_of, badge_for}
 use Rattle.dash_hall.proofs.Badges.{alike_length, queue_count}
-use Rattle.dash_threads.proofs.ThreadSteps.{on_ok, works_still}
-use Rattle.dash_threads.proofs.ThreadRuns.{made_takes, idle_takes, watch_takes, event_takes, hands_in}
+use Rattle.dash_threads.proofs.ThreadRuns.{on_ok, works_still, made_takes, idle_takes, watch_takes, event_takes, hands_in, its_mode}
 use Rattle.dash_threads.specs.Threads.{TakesAt}
-use Rattle.dash_threads.proofs.ThreadPlaces.{its_mode}
 use Rattle.dash_threads.proofs.thread.PostingThread.run.Goals as goal
 
 pub returns-in_default : goal.returns-in_default

@@ -1,6 +1,6 @@
 use Rattle.std.proofs.Common.{ℕ, List, sym, ap, ◌∙◌}
 use Rattle.dash_threads.specs.Threads.{more_for, looper_woken}
-use Rattle.dash_threads.proofs.ThreadNudges.{up_to_still}
+use Rattle.dash_threads.proofs.ThreadShares.{up_to_still}
 use Rattle.dash_threads.proofs.thread.PostingThread.run_at.Goals as goal
 
 pub returns-clause-made : goal.returns-clause-made

@@ -3,7 +3,7 @@ use Rattle.run_model.specs.Moments.{Mode}
 use Rattle.run_model.specs.ByClock.{in_free_mode}
 use Rattle.dash_threads.specs.declared.thread.PostingThread.{PostingThread}
 use Rattle.dash_threads.specs.Threads.{TakesAt, rungs_of, more_for, looper_woken}
-use Rattle.dash_threads.proofs.ThreadNudges.{takes_at}
+use Rattle.dash_threads.proofs.ThreadShares.{takes_at}
 use Rattle.dash_threads.proofs.thread.PostingThread.run_line_by_clock.Goals as goal
 
 pub returns-clause-runs : goal.returns-clause-runs

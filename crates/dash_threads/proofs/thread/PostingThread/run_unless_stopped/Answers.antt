@@ -1,6 +1,6 @@
 use Rattle.std.proofs.Common.{ℕ, List, true≢false, sym, ap, ◌∙◌}
 use Rattle.dash_threads.specs.Threads.{one_more_at}
-use Rattle.dash_threads.proofs.ThreadSteps.{ok_is}
+use Rattle.dash_threads.proofs.ThreadRuns.{ok_is}
 use Rattle.dash_threads.proofs.thread.PostingThread.run_unless_stopped.Goals as goal
 
 pub returns-else-is_err-clause-made : goal.returns-else-is_err-clause-made

@@ -1,4 +1,4 @@
-use Rattle.dash_threads.proofs.ThreadNudges.{ok_so}
+use Rattle.dash_threads.proofs.ThreadShares.{ok_so}
 use Rattle.dash_threads.proofs.thread.PostingThread.wait_for.Goals as goal
 
 pub returns-clause-passed : goal.returns-clause-passed
