@@ -2,5 +2,3 @@
 pub mod HallEnds
 pub mod HallFrames
 pub mod Carried
-pub mod TimelyRecords
-pub mod Reported

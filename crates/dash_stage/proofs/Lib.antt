@@ -6,4 +6,3 @@ pub mod ByClock
 pub mod Ends
 pub mod Stages
 pub mod Moves
-pub mod Stepping

@@ -15,7 +15,7 @@ use loop_model::NoMemory;
 use std::alloc::Global;
 
 /// The senders of a script, which have done nothing, in lockstep or by a clock.
-#[tactic(auto, using(crate::proofs::BlockTimes::Limits::playable))]
+#[tactic(auto, using(crate::proofs::BlockTimes::playable))]
 pub(crate) fn set_up(alloc: Global, script: &Script, lockstep: bool) -> Result<Stage, NoMemory>
     requires { HasText script.now }
     ensures opened { IfOk result (HasOpened lockstep script.now) }

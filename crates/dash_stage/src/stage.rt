@@ -34,7 +34,7 @@ pub(crate) struct Stage {
 
 impl Stage {
     /// The whole script: each block at its time, what comes due between two blocks, and the end.
-    #[tactic(auto, using(crate::proofs::BlockTimes::Limits::before_end))]
+    #[tactic(auto, using(crate::proofs::BlockTimes::before_end))]
     pub(crate) fn play<R: Threads + Wait + Sync, G: Gate + Sync>(
         &mut self,
         means: &Means<R, G>,

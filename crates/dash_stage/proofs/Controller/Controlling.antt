@@ -1,26 +1,98 @@
--- The controller's posters and passes, and what its calls leave of them.
-use Rattle.std.proofs.Common.{◌≡◌, ◌<◌, ◌+◌, ℕ, [], ◌++◌, length, drop, set, append-nil, sym, ap, ◌∙◌, subst, arith, Bool}
+-- The controller's posters and passes, and the parts that it keeps.
+use Rattle.std.proofs.Common.{◌≡◌, ◌<◌, zero, suc, ℕ, List, [], ◌∷◌, length, set, get_or, drop, refl, sym, ap, ◌∙◌, subst, arith, ◌+◌, ◌++◌, append-nil, Bool, true, ◌≢◌, ◌≤◌, false}
+use Rattle.std.specs.Prelude.{slice_index_or, replicate, Result, Ok, Err, IfOk, OnErr}
+use Rattle.std.specs.Global.{Vec}
+use Rattle.std.proofs.lemmas.List.{get_or-set_same, get_or-set_other, length-set, get_or-map, get_or_default}
+use mathlib.Core.Logic.{dite}
+use native.Mathlib.Decide.{ℕ_discrete}
+use Rattle.frame_phases.specs.declared.entry.FrameEntry.{FrameEntry}
+use Rattle.choreographer.specs.Known.{Pass, SharedFrames, IsPassOf, IsFrameTurn}
+use Rattle.choreographer.specs.Ends.{HasHandedOut, entries_in}
+use Rattle.loop_model.proofs.Prefixes.{prefix_trans}
+use Rattle.dash_hall.specs.Hearing.{PassesHaveHeard}
+use Rattle.dash_stage.specs.Controllers.{HaveHandedOut, parts_in, IsControllerIn, CanTurn, parts_handed_out, IsController, HandsOutFrames, OtherPostersStay}
 use Rattle.std.proofs.Math.Seq.{map-set_same}
 use Rattle.choreographer.proofs.Counting.{drop_prefix}
-use Rattle.std.specs.Prelude.{slice_index_or}
 use Rattle.std.specs.Vec.{vec_len, with_item}
 use Rattle.atomic_table.specs.Seated.{TableId}
 use Rattle.dash_script.specs.declared.script.Script.{Script}
 use Rattle.shared_queue.specs.Constants.{Constants}
-use Rattle.shared_queue.specs.Known.{Shared, IsOf, IsTurn}
+use Rattle.shared_queue.specs.Known.{Shared, IsOf, IsTurn, IsSamePoster}
 use Rattle.looper_run.specs.Holding.{Sender, State}
 use Rattle.message_pool.specs.Passes.{Tally}
-use Rattle.dash_hall.specs.Growth.{GoesOn}
+use Rattle.dash_hall.specs.Growth.{GoesOn, own, QuitsOf}
 use Rattle.choreographer.specs.declared.state.StampedFrames.{StampedFrames}
-use Rattle.choreographer.specs.Known.{SharedFrames, Pass, IsPassOf, IsFrameTurn}
-use Rattle.run_model.specs.Planned.{controller}
+use Rattle.run_model.specs.Planned.{controller, entries_by}
 use Rattle.dash_hall.specs.declared.hall.Hall.{Hall}
 use Rattle.dash_stage.specs.declared.control.Controller.{Controller}
-use Rattle.dash_hall.specs.Kits.{badge_of, badge_for, frame_badge_of, frame_badge_for, IsHall}
-use Rattle.choreographer.proofs.Handing.{hands_same}
-use Rattle.dash_stage.specs.Controllers.{IsControllerIn, CanTurn, parts_handed_out, parts_in}
-use Rattle.dash_stage.proofs.Controller.FrameLists.{handed_same, idle_kept}
-use Rattle.dash_hall.proofs.Badges.{alike_length, queue_count, choreographer_count, poster_is, pass_is, queue_is, posters_kept, passes_kept, turn_badge, gone_badge, frame_turn_badge}
+use Rattle.dash_hall.specs.Kits.{badge_of, badge_for, frame_badge_of, frame_badge_for, IsHall, FrameBadge}
+use Rattle.choreographer.proofs.Handing.{hands_same, hands_part}
+use Rattle.dash_hall.proofs.Badges.{alike_length, queue_count, choreographer_count, poster_is, pass_is, queue_is, posters_kept, passes_kept, turn_badge, gone_badge, frame_turn_badge, choreographer_at}
+use Rattle.choreographer.specs.declared.view.Constants.{Constants as FrameConstants}
+use Rattle.loop_model.specs.declared.memory.NoMemory.{NoMemory}
+use Rattle.choreographer.specs.Calls.{SealedBy}
+use Rattle.choreographer.proofs.Joining.{entries_behind}
+use Rattle.frame_phases.specs.State.{Frames as FrameState, Seals}
+use Rattle.dash_stage.specs.GivingUp.{rings, AreQuitBelow, AreRung, HaveBeenRung, IsNudged, IsRung, RingsNone, RingsNoLess}
+
+-- ==== passes with the lists of what they handed out
+
+-- as many lists as passes
+pub lists_count : (ps : List Pass) (lists : List (Vec (List FrameEntry))) → HaveHandedOut ps lists → length lists ≡ length ps
+lists_count [] [] h = refl
+lists_count [] (v ∷ lists) h = absurd h
+lists_count (p ∷ ps) [] h = absurd h
+lists_count (p ∷ ps) (v ∷ lists) h = ap suc (lists_count ps lists h.1)
+
+-- passes that heard others have handed out what they had
+pub handed_heard : (ps qs : List Pass) (lists : List (Vec (List FrameEntry))) → PassesHaveHeard ps qs → HaveHandedOut ps lists → HaveHandedOut qs lists
+handed_heard [] [] [] e h = tt
+handed_heard [] (q ∷ qs) lists e h = absurd (let long = e.long in omega (arith, long))
+handed_heard (p ∷ ps) [] lists e h = absurd (let long = e.long in omega (arith, long))
+handed_heard [] [] (v ∷ lists) e h = absurd h
+handed_heard (p ∷ ps) (q ∷ qs) [] e h = absurd h
+handed_heard (p ∷ ps) (q ∷ qs) (v ∷ lists) e h =
+    let long = e.long in
+    let first = e.each 0 p (omega arith) in
+    let rest : PassesHaveHeard ps qs = record { long = omega (arith, long); each = λ k d lt. e.each (suc k) d (omega (arith, lt)) } in
+    ((h.0.0 ∙ sym first.same.handed, prefix_trans (entries_in v.items) p.view.seen q.view.seen h.0.1 first.seen), handed_heard ps qs lists rest h.1)
+
+-- one pass, and its list, goes on
+pub handed_more : (ps : List Pass) (lists : List (Vec (List FrameEntry))) (i : ℕ) (p p' : Pass) (v v' : Vec (List FrameEntry)) → p ≡ get_or ps i p → v ≡ get_or lists i v → i < length ps
+    → (HasHandedOut p (entries_in v.items) → HasHandedOut p' (entries_in v'.items)) → HaveHandedOut ps lists → HaveHandedOut (set ps i p') (set lists i v')
+handed_more [] lists i p p' v v' is_p is_v lt more h = absurd (omega (arith, lt))
+handed_more (q ∷ ps) [] i p p' v v' is_p is_v lt more h = absurd h
+handed_more (q ∷ ps) (u ∷ lists) zero p p' v v' is_p is_v lt more h =
+    (more (subst (λ (z : Pass × Vec (List FrameEntry)). HasHandedOut z.0 (entries_in z.1.items)) (λ j. (sym is_p j, sym is_v j)) h.0), h.1)
+handed_more (q ∷ ps) (u ∷ lists) (suc i) p p' v v' is_p is_v lt more h = (h.0, handed_more ps lists i p p' v v' is_p is_v (omega (arith, lt)) more h.1)
+
+-- one pass handed nothing more out
+pub handed_same : (ps : List Pass) (lists : List (Vec (List FrameEntry))) (i : ℕ) (p p' : Pass) → p ≡ get_or ps i p → i < length ps
+    → ((entries : List FrameEntry) → HasHandedOut p entries → HasHandedOut p' entries) → HaveHandedOut ps lists → HaveHandedOut (set ps i p') lists
+handed_same [] lists i p p' is lt keeps h = absurd (omega (arith, lt))
+handed_same (q ∷ ps) [] i p p' is lt keeps h = absurd h
+handed_same (q ∷ ps) (v ∷ lists) zero p p' is lt keeps h = (keeps (entries_in v.items) (subst (λ (z : Pass). HasHandedOut z (entries_in v.items)) (sym is) h.0), h.1)
+handed_same (q ∷ ps) (v ∷ lists) (suc i) p p' is lt keeps h = (h.0, handed_same ps lists i p p' is (omega (arith, lt)) keeps h.1)
+
+-- passes that handed nothing out, with empty lists
+pub nothing_handed_out : (ps : List Pass) (lists : List (Vec (List FrameEntry))) → parts_in lists ≡ replicate (length ps) [] → ((q : ℕ) (p : Pass) → q < length ps → (slice_index_or ps q p).view.handed ≡ 0)
+    → HaveHandedOut ps lists
+nothing_handed_out [] [] none unused = tt
+nothing_handed_out [] (v ∷ lists) none unused = absurd (cc (none))
+nothing_handed_out (p ∷ ps) [] none unused = absurd (cc (none))
+nothing_handed_out (p ∷ ps) (v ∷ lists) none unused = (
+  subst (λ (l : List (List FrameEntry)). HasHandedOut p (entries_in l)) (sym (ap (λ l. get_or l 0 []) none)) (sym (unused 0 p (omega arith)), (p.view.seen, refl)),
+  nothing_handed_out ps lists (ap (drop 1) none) (λ q d lt. unused (suc q) d (omega (arith, lt))),
+)
+
+-- a pass at one place recorded nothing
+pub idle_kept : (ps : List Pass) (i : ℕ) (p p' : Pass) → p ≡ slice_index_or ps i p → i < length ps → p'.view.own ≡ p.view.own → ((q : ℕ) (d : Pass) → q < length ps → (slice_index_or ps q d).view.own ≡ [])
+    → (q : ℕ) (d : Pass) → q < length (set ps i p') → (slice_index_or (set ps i p') q d).view.own ≡ []
+idle_kept ps i p p' is lt same idle q d below = dite (ℕ_discrete q i)
+    (λ here. ap (λ m. (get_or (set ps i p') m d).view.own) here ∙ (ap (λ (z : Pass). z.view.own) (get_or-set_same ps i p' d lt) ∙ (same ∙ (ap (λ (z : Pass). z.view.own) is ∙ idle i p lt))))
+    (λ there. ap (λ (z : Pass). z.view.own) (get_or-set_other ps i q p' d there) ∙ idle q d (let long = length-set ps i p' in omega (arith, below, long)))
+
+-- ==== the controller's posters and passes, and what its calls leave of them
 
 -- the controller has a poster for each looper
 pub poster_count : {lockstep : Bool} (s : Script) (hall : Hall) (c : Controller) → IsHall s hall → IsControllerIn lockstep s hall c → length c.kit.posters.items ≡ s.loopers
@@ -122,3 +194,163 @@ module _ {lockstep : Bool} {s : Script} {hall : Hall} {i : ℕ} {c : Controller}
           let es = x.frames.entries in
           let none : drop (length es) es ≡ [] = drop_prefix es [] es (append-nil es) in
           t.own ∙ (ap (λ l. p.view.own ++ l) none ∙ append-nil p.view.own)
+
+-- ==== the controller hands entries out of the frame records, and keeps the parts
+
+-- by a sealing the pass records nothing
+recorded_none : (before after : Pass) (result : Result (List FrameEntry) NoMemory) → SealedBy before after result → after.view.own ≡ before.view.own
+recorded_none before after result h = h.2.own ∙ nothing_behind before.view.own h.0.frames.entries h.1.frames.entries (entries_kept result h.3)
+  where
+    nothing_behind : (own xs ys : List FrameEntry) → ys ≡ xs → own ++ drop (length xs) ys ≡ own
+    nothing_behind own xs ys same = ap (λ l. own ++ l) (ap (drop (length xs)) same ∙ drop_prefix xs [] xs (append-nil xs)) ∙ append-nil own
+
+    entries_kept : (r : Result (List FrameEntry) NoMemory) → Seals h.0.frames r h.1.frames → h.1.frames.entries ≡ h.0.frames.entries
+    entries_kept (Ok part) seals = ap (λ (f : FrameState). f.entries) seals.1
+    entries_kept (Err e) seals = ap (λ (f : FrameState). f.entries) seals
+
+-- one sealing, which hands a part out or nothing
+pub frames_handed : (p p' : Pass) (result : Result (List FrameEntry) NoMemory) (had : List (List FrameEntry)) → SealedBy p p' result
+    → IfOk result (λ part. HandsOutFrames p p' had (had ++ part ∷ [])) × OnErr result (HandsOutFrames p p' had had)
+frames_handed p p' (Ok part) had h = (
+  record {
+    badge = λ i. record { table = h.2.table i; constants = h.2.constants i; number = h.2.number i };
+    own = recorded_none p p' (Ok part) h;
+    parts = λ out. subst (HasHandedOut p') (sym (entries_behind had part)) (hands_part p p' (Ok part) h (entries_in had) out).0;
+  },
+  tt,
+)
+frames_handed p p' (Err e) had h = (
+  tt,
+  record {
+    badge = λ i. record { table = h.2.table i; constants = h.2.constants i; number = h.2.number i };
+    own = recorded_none p p' (Err e) h;
+    parts = λ out. (hands_part p p' (Err e) h (entries_in had) out).1;
+  },
+)
+
+-- the controller whose pass of one choreographer handed a part out, which it keeps
+module _ {s : Script} {hall : Hall} {i : ℕ} {c : Controller} (at : CanTurn true s hall i c) {p p' : Pass} {v : Vec (List FrameEntry)} (v' : Vec (List FrameEntry))
+    (is_p : p ≡ slice_index_or c.kit.frames.items i p) (is_v : v ≡ slice_index_or c.sealed_frames.items i v) (out : HandsOutFrames p p' v.items v'.items) where
+  has_pass : i < length c.kit.frames.items
+  has_pass = let many = pass_count at in let lt = at.known in omega (arith, many, lt)
+
+  abbrev pub after_frames : Controller
+  after_frames = record { kit = record { posters = c.kit.posters; pass = c.kit.pass; frames = with_item c.kit.frames i p' }; sealed = c.sealed; sealed_frames = with_item c.sealed_frames i v' }
+
+  pub frames_controller : IsController s hall after_frames
+  frames_controller = record {
+    posters = at.controller.posters;
+    frames = passes_kept (s.threads + 2) hall.choreographers.items c.kit.frames.items at.controller.frames i p' p (out.badge ∙ ap frame_badge_of is_p);
+    pass = at.controller.pass;
+    mode = at.controller.mode;
+    idle = idle_kept c.kit.frames.items i p p' is_p has_pass out.own at.controller.idle;
+    sealed = at.controller.sealed;
+    sealed_frames = handed_more c.kit.frames.items c.sealed_frames.items i p p' v v' is_p is_v has_pass out.parts at.controller.sealed_frames;
+  }
+
+-- the controller's pass of a choreographer is the last one
+pub last_pass : {s : Script} {hall : Hall} {i : ℕ} {c : Controller} → CanTurn true s hall i c → {p : Pass} {f : SharedFrames} → p ≡ slice_index_or c.kit.frames.items i p
+    → f ≡ slice_index_or hall.choreographers.items i f → p.number + 1 ≡ f.constants.passes
+last_pass {s} {hall} {i} {c} at {p} {f} is_p is_f =
+    let lt = at.known in
+    let many = pass_count at in
+    let few = choreographer_count s hall.choreographers.items at.is_hall.choreographers in
+    let mine : frame_badge_of p ≡ frame_badge_for (s.threads + 2) f =
+    ap frame_badge_of is_p ∙ (sym (get_or-map frame_badge_of c.kit.frames.items i p (frame_badge_of p) (omega (arith, lt, many)))
+    ∙ (ap (λ l. get_or l i (frame_badge_of p)) at.controller.frames
+    ∙ (get_or-map (frame_badge_for (s.threads + 2)) hall.choreographers.items i f (frame_badge_of p) (omega (arith, lt, few)) ∙ ap (frame_badge_for (s.threads + 2)) (sym is_f)))) in
+    let number : p.number ≡ s.threads + 2 = ap (λ (b : FrameBadge). b.number) mine in
+    let passes : f.constants.passes ≡ s.threads + 3 =
+    ap (λ (z : SharedFrames). z.constants.passes) is_f ∙ ap (λ (z : FrameConstants). z.passes) (choreographer_at s hall.choreographers.items at.is_hall.choreographers i f lt) in
+    omega (arith, number, passes)
+
+-- the controller has a list of parts for each looper
+pub in_frame_lists : {s : Script} {hall : Hall} {i : ℕ} {c : Controller} → CanTurn true s hall i c → i < vec_len c.sealed_frames
+in_frame_lists {s} {hall} {i} {c} at =
+    let lt = at.known in
+    let many = pass_count at in
+    let lists = lists_count c.kit.frames.items c.sealed_frames.items at.controller.sealed_frames in
+    let all = c.sealed_frames.ok.0 in
+    omega (arith, many, lists, all, lt)
+
+-- ==== what the controller leaves of its posters as it gives a run up
+
+-- a poster at a place, and another one there
+module _ (xs : List Sender) (i : ℕ) (p p' : Sender) (within : i < length xs) (is_p : p ≡ slice_index_or xs i p) where
+  -- what holds between the two holds between what stands there
+  pub stands_there : (R : Sender → Sender → Type 0) → R p p' → (d : Sender) → R (slice_index_or xs i d) (slice_index_or (set xs i p') i d)
+  stands_there R h d =
+      subst (λ (z : Sender). R z (slice_index_or (set xs i p') i d)) (is_p ∙ get_or_default xs i p d within)
+      (subst (R p) (sym (get_or-set_same xs i p' d within)) h)
+
+-- a poster of the controller that called nothing, and handed nothing out, leaves it the controller
+pub after_bell : {lockstep : Bool} (s : Script) (hall : Hall) (i : ℕ) (c : Controller) (p p' : Sender) → IsControllerIn lockstep s hall c → p ≡ slice_index_or c.kit.posters.items i p → IsSamePoster p p'
+    → IsControllerIn lockstep s hall (record { kit = record { posters = with_item c.kit.posters i p'; pass = c.kit.pass; frames = c.kit.frames }; sealed = c.sealed; sealed_frames = c.sealed_frames })
+after_bell s hall i c p p' k is_p same = record {
+  posters = posters_kept (controller s) hall.queues.items c.kit.posters.items k.posters i p' p ((λ j. record { table = same.table j; constants = same.constants j; sender = same.sender j }) ∙ ap badge_of is_p);
+  frames = k.frames;
+  pass = k.pass;
+  mode = k.mode;
+  idle = k.idle;
+  sealed_frames = k.sealed_frames;
+  sealed = map-set_same (λ (z : Sender). z.view.sealed) c.kit.posters.items i p' p (same.sealed ∙ ap (λ (z : Sender). z.view.sealed) is_p) ∙ k.sealed;
+}
+
+-- the same calls stand behind it
+pub none_by_bell : (p p' : Sender) → IsSamePoster p p' → p'.view.seen ≡ p.view.seen → own p' ≡ own p
+none_by_bell p p' same seen = ap (λ (n : ℕ). entries_by n p'.view.seen) same.sender ∙ ap (entries_by p.sender) seen
+
+-- one queue more was quit, and those behind it are as they were
+module _ (now n : ℕ) (a b c : Controller) (rest : (q : ℕ) (d : Sender) → n ≤ q → slice_index_or b.kit.posters.items q d ≡ slice_index_or a.kit.posters.items q d)
+    (elsewhere : (q : ℕ) (d : Sender) → q ≢ n → slice_index_or c.kit.posters.items q d ≡ slice_index_or b.kit.posters.items q d) where
+  pub quit_more : AreQuitBelow n now a b → ((d : Sender) → QuitsOf (slice_index_or b.kit.posters.items n d) (slice_index_or c.kit.posters.items n d) false now) → AreQuitBelow (n + 1) now a c
+  quit_more quit here q d some below = dite (ℕ_discrete q n)
+      (λ at. subst (λ (m : ℕ). QuitsOf (slice_index_or a.kit.posters.items m d) (slice_index_or c.kit.posters.items m d) false now) (sym at)
+      (subst (λ (z : Sender). QuitsOf z (slice_index_or c.kit.posters.items n d) false now) (rest n d (omega arith)) (here d)))
+      (λ apart. subst (λ (z : Sender). QuitsOf (slice_index_or a.kit.posters.items q d) z false now) (sym (elsewhere q d apart)) (quit q d some (omega (arith, apart, below))))
+
+  pub rest_less : (q : ℕ) (d : Sender) → n + 1 ≤ q → slice_index_or c.kit.posters.items q d ≡ slice_index_or a.kit.posters.items q d
+  rest_less q d le = elsewhere q d (λ e. absurd (omega (arith, e, le))) ∙ rest q d (omega (arith, le))
+
+-- a looper that was rung is so where its poster is as it was
+rung_kept : (q : ℕ) (a b c : Controller) → IsRung q a b → ((d : Sender) → slice_index_or c.kit.posters.items q d ≡ slice_index_or b.kit.posters.items q d) → IsRung q a c
+rung_kept q a b c h same = record {
+  rung = λ d. ap (λ (z : Sender). z.view.rung) (same d) ∙ h.rung d;
+  none = λ d. ap own (same d) ∙ h.none d;
+}
+
+-- as main
+pub nudged_kept : (a b c : Controller) → IsNudged a b → ((d : Sender) → slice_index_or c.kit.posters.items 0 d ≡ slice_index_or b.kit.posters.items 0 d) → IsNudged a c
+nudged_kept = rung_kept 0
+
+-- one looper more was rung, whose poster was as it had been
+pub rung_more : (n : ℕ) (a b c : Controller) → ((q : ℕ) (d : Sender) → n ≤ q → slice_index_or b.kit.posters.items q d ≡ slice_index_or a.kit.posters.items q d)
+    → ((q : ℕ) (d : Sender) → q ≢ n → slice_index_or c.kit.posters.items q d ≡ slice_index_or b.kit.posters.items q d) → AreRung n a b → IsRung n b c → AreRung (n + 1) a c
+rung_more n a b c rest elsewhere rung here q below = dite (ℕ_discrete q n)
+    (λ at. subst (λ (m : ℕ). IsRung m a c) (sym at) (record {
+      rung = λ d. here.rung d ∙ ap (λ (z : Sender). z.view.rung + 1) (rest n d (omega arith));
+      none = λ d. here.none d ∙ ap own (rest n d (omega arith));
+    }))
+    (λ apart. rung_kept q a b c (rung q (omega (arith, apart, below))) (λ d. elsewhere q d apart))
+
+-- one poster changed
+module _ (place : ℕ) (a b : Controller) (elsewhere : OtherPostersStay place a b) where
+  -- and rang as often as before
+  pub none_rung : ((d : Sender) → rings b place d ≡ rings a place d) → RingsNone a b
+  none_rung here q d = dite (ℕ_discrete q place)
+      (λ at. subst (λ (m : ℕ). rings b m d ≡ rings a m d) (sym at) (here d))
+      (λ apart. ap (λ (z : Sender). z.view.rung) (elsewhere q d apart))
+
+  -- and rang once
+  pub one_rung : IsRung place a b → RingsNoLess a b
+  one_rung here q d = dite (ℕ_discrete q place)
+      (λ at. subst (λ (m : ℕ). rings a m d ≤ rings b m d) (sym at) (omega (arith, here.rung d)))
+      (λ apart. omega (arith, ap (λ (z : Sender). z.view.rung) (elsewhere q d apart)))
+
+-- no bell rings less often by a call that rings none
+pub still_no_less : (a b c : Controller) → RingsNoLess a b → RingsNone b c → RingsNoLess a c
+still_no_less a b c less none q d = omega (arith, less q d, none q d)
+
+-- where each of the first n bells rang once more, and none less often before
+pub all_rung : (n : ℕ) (a b c : Controller) → RingsNoLess a b → AreRung n b c → HaveBeenRung n a c
+all_rung n a b c less rung q d below = omega (arith, less q d, (rung q below).rung d)

@@ -1,4 +1,4 @@
--- The controller's own entries on a queue: what its calls and the queue's replies make of them.
+-- The controller's own entries, and what is known of them while it calls nothing.
 use Rattle.std.proofs.Common.{◌≡◌, ℕ, ◌≤◌, ◌+◌, max, Bool, true, false, List, [], ◌∷◌, ◌++◌, Option, Some, None, refl, sym, ap, ◌∙◌, subst, arith, cond, zero, suc, ◌<◌, length, slice_index_or, inl, inr, ◌⊎◌}
 use Rattle.std.specs.Prelude.{◌==◌, ◌&&◌, ◌||◌, not, nat_le, is_some, IfSome, if◌then◌else◌}
 use Rattle.std.specs.List.{list_any, AllByRecursion}
@@ -43,12 +43,18 @@ use Rattle.dash_hall.specs.declared.hall.Hall.{Hall}
 use Rattle.dash_hall.specs.declared.kit.Kit.{Kit}
 use Rattle.dash_stage.specs.declared.control.Controller.{Controller}
 use Rattle.dash_hall.specs.Growth.{own}
-use Rattle.dash_hall.specs.Kits.{badge_of, badge_for, ArePostersOf, IsHall, AreKitsOf, OthersAreOver}
-use Rattle.dash_stage.specs.Controllers.{are_advances, time_in, calls_on, HasClosedIn}
+use Rattle.dash_hall.specs.Kits.{badge_of, badge_for, ArePostersOf, IsHall, AreKitsOf, OthersAreOver, IsUnusedKit}
+use Rattle.dash_stage.specs.Controllers.{are_advances, time_in, calls_on, HasClosedIn, OnlyMoves, MovesAndQuits, IsMoving, HasReached, IsQuitting, IsClosing, CallsNone, CallsNothingOn, IsClosingBy}
 use Rattle.dash_stage.specs.Records.{AreQueueRecords, HaveAll}
 use Rattle.dash_hall.proofs.Badges.{alike_length, queue_count}
 use Rattle.dash_stage.proofs.Ends.HallEnds.{some_of}
 use Rattle.dash_stage.proofs.Ends.Carried.{numbered_count, numbered_at}
+use Rattle.std.specs.Global.{Vec}
+use mathlib.Core.Logic.{dite}
+use native.Mathlib.Decide.{dec_lt}
+use Rattle.dash_stage.specs.Timeliness.{AreBy}
+
+-- ==== the controller's own entries on a queue: what its calls and the queue's replies make of them
 
 -- the time after one entry more
 pub time_in-snoc : (es : List Entry) (e : Entry) → time_in (es ++ e ∷ []) ≡ max (time_in es) (moment_of e.call)
@@ -462,3 +468,120 @@ module _ (s : Script) (hall : Hall) (kits : List Kit) (records : List QueueRecor
           side_record m s (slice_index_or records (suc q) r) is.0 (omega (arith, number)) _ (all (s.threads + suc q) (suc q) c.kit p r looper lt).1
           (over (suc q) c.kit (omega arith) (omega (arith, lt, short)) p)
           (subst (λ l. are_controls false m.lockstep s.end true l ≡ true) (sym (calls (suc q) r p lt)) (closed.others (suc q) (omega arith) p (within (suc q) lt)))
+
+-- ==== what the controller has called stays true while it calls nothing, and its stages follow one another
+
+-- where the posters are the same it has called nothing more
+pub none_same : (c c' : Controller) → c'.kit.posters ≡ c.kit.posters → CallsNone c c'
+none_same c c' is = record {
+  long = ap (λ (v : Vec Sender). length v.items) is;
+  calls = λ q d. ap (λ (v : Vec Sender). own (slice_index_or v.items q d)) is;
+}
+
+-- nothing, and then nothing
+pub none_after : (a b c : Controller) → CallsNone a b → CallsNone b c → CallsNone a c
+none_after a b c f g = record {
+  long = g.long ∙ f.long;
+  calls = λ q d. g.calls q d ∙ f.calls q d;
+}
+
+-- what holds of the calls on one queue holds of them still, where none was made there
+pub calls_kept : (c c' : Controller) → length c'.kit.posters.items ≡ length c.kit.posters.items → (q : ℕ) → ((d : Sender) → calls_on c' q d ≡ calls_on c q d) → (P : List Entry → Type 0)
+    → ((d : Sender) → q < length c.kit.posters.items → P (calls_on c q d))
+    → (d : Sender) → q < length c'.kit.posters.items → P (calls_on c' q d)
+calls_kept c c' long q same P h d lt = subst P (sym (same d)) (h d (subst (λ (n : ℕ). q < n) long lt))
+
+-- it has moved no queue past this time, as before
+pub by_kept : (c c' : Controller) → CallsNone c c' → (time : ℕ) → AreBy time c → AreBy time c'
+by_kept c c' none time by q = calls_kept c c' none.long q (none.calls q) (λ l. are_advances time l ≡ true) (by q)
+
+module _ (s : Script) (c c' : Controller) (none : CallsNone c c') where
+  moves_kept : (q : ℕ) → OnlyMoves s c q → OnlyMoves s c' q
+  moves_kept q = calls_kept c c' none.long q (none.calls q) (λ l. are_advances s.end l ≡ true)
+
+  quits_kept : (lockstep : Bool) (q : ℕ) → MovesAndQuits lockstep s c q → MovesAndQuits lockstep s c' q
+  quits_kept lockstep q = calls_kept c c' none.long q (none.calls q) (λ l. are_controls false lockstep s.end true l ≡ true)
+
+  -- it has called nothing there, as before
+  pub nothing_kept : (q : ℕ) → CallsNothingOn c q → CallsNothingOn c' q
+  nothing_kept q = calls_kept c c' none.long q (none.calls q) (λ l. l ≡ [])
+
+  -- it moves the queues' time on, as before
+  pub moving_kept : IsMoving s c → IsMoving s c'
+  moving_kept = by_kept c c' none s.end
+
+  -- main has come to the same time
+  pub reached_kept : (time : ℕ) → HasReached time c → HasReached time c'
+  reached_kept time = calls_kept c c' none.long 0 (none.calls 0) (λ l. time ≤ time_in l)
+
+  -- the same queues may have been quit
+  pub quitting_kept : (n : ℕ) → IsQuitting s n c → IsQuitting s n c'
+  quitting_kept n k = record {
+    side = k.side;
+    main = moves_kept 0 k.main;
+    reached = reached_kept s.end k.reached;
+    done = λ q some lt. quits_kept true q (k.done q some lt);
+    rest = λ q le. moves_kept q (k.rest q le);
+  }
+
+  -- and main is still to be halted
+  pub closing_kept : IsClosing s c → IsClosing s c'
+  closing_kept k = record {
+    main = moves_kept 0 k.main;
+    reached = reached_kept s.end k.reached;
+    others = λ q some. quits_kept true q (k.others q some);
+  }
+
+  -- the same by a clock
+  pub closing_by_kept : IsClosingBy s c → IsClosingBy s c'
+  closing_by_kept k = record { main = nothing_kept 0 k.main; others = λ q some. quits_kept false q (k.others q some) }
+
+  -- and main was halted, and the others may have been quit
+  pub closed_kept : {lockstep : Bool} → HasClosedIn lockstep s c → HasClosedIn lockstep s c'
+  closed_kept {lockstep} k = record {
+    main = calls_kept c c' none.long 0 (none.calls 0) (λ l. are_controls true lockstep s.end false l ≡ true) k.main;
+    others = λ q some. quits_kept lockstep q (k.others q some);
+  }
+
+module _ (s : Script) (c : Controller) where
+  -- where only the time was moved on, the queue may also have been quit
+  pub moves_may_quit : (q : ℕ) → OnlyMoves s c q → MovesAndQuits true s c q
+  moves_may_quit q moves d lt = advances_may_quit s.end (calls_on c q d) (moves d lt)
+
+  -- none has been quit as the time of main comes to the end
+  pub quitting_starts : IsMoving s c → HasReached s.end c → IsQuitting s 1 c
+  quitting_starts moving reached = record {
+    side = omega arith;
+    main = moving 0;
+    reached = reached;
+    done = λ q some lt. absurd (omega (arith, some, lt));
+    rest = λ q le. moving q;
+  }
+
+  -- a queue that is not quit is passed over
+  pub quitting_skips : (n : ℕ) → IsQuitting s n c → IsQuitting s (n + 1) c
+  quitting_skips n k = record {
+    side = omega arith;
+    main = k.main;
+    reached = k.reached;
+    done = λ q some lt. dite (dec_lt q n) (λ below. k.done q some below) (λ here. moves_may_quit q (k.rest q (omega (arith, here))));
+    rest = λ q le. k.rest q (omega (arith, le));
+  }
+
+-- ==== what the stage knows of its controller's calls, and of a kit that was not used
+
+-- behind the last queue each but main may have been quit
+pub quitting_ends : (s : Script) (n : ℕ) (c : Controller) → IsQuitting s n c → IsClosing s c
+quitting_ends s n c k = record {
+  main = k.main;
+  reached = k.reached;
+  others = λ q some. dite (dec_lt q n) (λ below. k.done q some below) (λ here. moves_may_quit s c q (k.rest q (omega (arith, here))));
+}
+
+-- a controller whose kit was not used has called nothing, so it has moved no queue past a time
+pub unused_by : (time : ℕ) (c : Controller) → IsUnusedKit c.kit → AreBy time c
+unused_by time c unused = λ q d lt. subst (λ (l : List Entry). are_advances time (entries_by (slice_index_or c.kit.posters.items q d).sender l) ≡ true) (sym (unused.posters q d lt)) refl
+
+-- it moves the time alone
+pub unused_moves : (s : Script) (c : Controller) → IsUnusedKit c.kit → IsMoving s c
+unused_moves s c unused = λ q. unused_by s.end c unused q

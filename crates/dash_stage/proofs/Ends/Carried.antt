@@ -1,7 +1,7 @@
--- What the threads have run is carried from their kits at the start to the records at the end.
-use Rattle.std.proofs.Common.{◌≡◌, ◌<◌, ◌≤◌, ◌+◌, ℕ, suc, List, [], ◌∷◌, ◌++◌, map, length, sym, ap, ◌∙◌, subst, arith, slice_index_or}
+-- What goes with the kits to the records.
+use Rattle.std.proofs.Common.{◌≡◌, ◌<◌, ◌≤◌, ◌+◌, ℕ, suc, List, [], ◌∷◌, ◌++◌, map, length, sym, ap, ◌∙◌, subst, arith, slice_index_or, ◌-◌, get_or, drop, refl, length-append}
 use Rattle.std.specs.List.{remove, AllByRecursion, range_with_len}
-use Rattle.std.proofs.lemmas.List.{get_or-map, length-append, length-map}
+use Rattle.std.proofs.lemmas.List.{get_or-map, length-map}
 use Rattle.std.proofs.lemmas.List.FromFn.{length-range_with_len, get_or-range_with_len}
 use Rattle.run_model.specs.Planned.{history_of, entries_by, lines_of, labels_on}
 use Rattle.loop_model.specs.declared.entry.Entry.{Entry}
@@ -21,13 +21,23 @@ use Rattle.dash_threads.specs.declared.thread.PostingThread.{PostingThread}
 use Rattle.dash_hall.specs.Kits.{badge_of, badge_for, frame_badge_of, frame_badge_for, IsHall, IsKitOf, AreKitsOf, AreUnusedKits}
 use Rattle.dash_threads.specs.Threads.{IsThread, IsUpTo, HasCalled, AreByClock}
 use Rattle.dash_stage.specs.Records.{HaveAll, AreOfLoopers, HaveCalledByClock}
-use Rattle.dash_hall.specs.Dealing.{AreUsedNowhere}
+use Rattle.dash_hall.specs.Dealing.{AreUsedNowhere, EachGivesPoster}
 use Rattle.dash_stage.specs.Runs.{HasRunAll, HaveRunAll, HaveRunFrom}
 use Rattle.dash_stage.specs.Stages.{AreThreadsFrom, AreFirstKits, AreFirstThreads, AreKitsFrom, HaveRunBy}
 use Rattle.dash_hall.proofs.Badges.{alike_length, queue_count, choreographer_count}
 use Rattle.dash_stage.proofs.Ends.HallEnds.{some_of}
-use Rattle.dash_stage.proofs.Sharing.Casting.{first_more, first_thread, other_threads, kit_of_thread, other_kits, frames_of_thread}
+use Rattle.dash_stage.proofs.Sharing.{each_more, first_thread, other_threads, kit_of_thread, other_kits, frames_of_thread}
 use Rattle.dash_stage.specs.Sharing.{OfKits}
+use Rattle.std.specs.Global.{Vec}
+use Rattle.loop_model.specs.declared.segment.Segment.{Segment}
+use Rattle.looper_run.specs.Holding.{Sender}
+use Rattle.shared_queue.specs.Ends.{HaveSealed}
+use Rattle.dash_stage.specs.declared.control.Controller.{Controller}
+use Rattle.dash_stage.specs.Controllers.{parts_handed_out, parts_in}
+use Rattle.dash_stage.specs.Ending.{HavePosters, AreSealed, HasSealedNext, EachEndsPoster}
+use Rattle.dash_stage.proofs.Played.KitsOver.{last_kit}
+
+-- ==== what the threads have run is carried from their kits at the start to the records at the end
 
 -- kits that were used nowhere
 pub unused_kits : (kits : List Kit) → AreUsedNowhere kits → AreUnusedKits kits
@@ -47,8 +57,8 @@ module _ (s : Script) (hall : Hall) where
         subst (AreKitsFrom s hall (n + 1)) (sym rest) (other_kits s hall n kits are some),
         subst AreUnusedKits (sym rest) (other_unused kits unused some),
         omega (arith, more, count),
-        subst (AreFirstThreads s hall) (sym grown) (first_more (λ k (z : PostingThread). IsThread s hall z × (z.number ≡ k)) ts t first (is, number ∙ sym count)),
-        λ m. subst (HaveRunBy m s []) (sym grown) (first_more (λ k (z : PostingThread). IsUpTo m s [] z) ts t (run m) (new m)),
+        subst (AreFirstThreads s hall) (sym grown) (each_more (λ k (z : PostingThread). IsThread s hall z × (z.number ≡ k)) ts t first (is, number ∙ sym count)),
+        λ m. subst (HaveRunBy m s []) (sym grown) (each_more (λ k (z : PostingThread). IsUpTo m s [] z) ts t (run m) (new m)),
       )
 
   -- the threads' lines behind those of the first one
@@ -83,7 +93,7 @@ module _ (s : Script) (hall : Hall) where
       let here = subst (λ (z : PostingThread). IsThread s hall z × (z.number ≡ n)) (sym is_t) (first_thread s hall n ts t are some) in
       let is_of = subst (IsKitOf s hall n) (sym is_kit) (kit_of_thread s hall n t here.0 here.1) in (
         subst (λ (z : List PostingThread). AreThreadsFrom s hall (length kits') z) (sym rest) (subst (λ i. AreThreadsFrom s hall i (remove ts 0)) (sym more) (other_threads s hall n ts are some)),
-        subst (AreFirstKits s hall) (sym grown) (first_more (IsKitOf s hall) kits kit first is_of),
+        subst (AreFirstKits s hall) (sym grown) (each_more (IsKitOf s hall) kits kit first is_of),
       )
 
   -- which tells that it has run all its lines, if it has
@@ -97,7 +107,7 @@ module _ (s : Script) (hall : Hall) where
       let up = subst (λ (z : PostingThread). IsUpTo m s (lines_of n s.blocks) z) (sym is_t) (subst (λ i. IsUpTo m s (lines_of i s.blocks) (slice_index_or ts 0 t)) (let same : 0 + n ≡ n = omega arith in same) (run.0 0 t some)) in
       let has = subst (HasRunAll m s n) (sym is_kit) (kit_has_run m n t here.1 up) in (
         subst (λ (z : List PostingThread). HaveRunFrom m s (length kits') z) (sym rest) (subst (λ i. HaveRunFrom m s i (remove ts 0)) (sym more) (other_run m n ts run.0 some)),
-        subst (HaveRunAll m s) (sym grown) (first_more (λ k (z : Kit). k < s.threads → HasRunAll m s k z) kits kit run.1 (λ lt. has)),
+        subst (HaveRunAll m s) (sym grown) (each_more (λ k (z : Kit). k < s.threads → HasRunAll m s k z) kits kit run.1 (λ lt. has)),
       )
 
   -- before the first thread has given its kit back
@@ -112,7 +122,7 @@ module _ (s : Script) (hall : Hall) where
   -- a kit behind those of the threads tells nothing
   pub run_kept : (m : Mode) (kits kits' : List Kit) (kit : Kit) → s.threads ≤ length kits → kits' ≡ kits ++ kit ∷ [] → HaveRunAll m s kits → HaveRunAll m s kits'
   run_kept m kits kits' kit all grown ran =
-      subst (HaveRunAll m s) (sym grown) (first_more (λ k (z : Kit). k < s.threads → HasRunAll m s k z) kits kit ran (λ lt. absurd (omega (arith, lt, all))))
+      subst (HaveRunAll m s) (sym grown) (each_more (λ k (z : Kit). k < s.threads → HasRunAll m s k z) kits kit ran (λ lt. absurd (omega (arith, lt, all))))
 
 module _ {X : Type 0} (f : X → ℕ) (n : ℕ) (xs : List X) (are : map f xs ≡ range_with_len 0 n) where
   -- there is one for each number
@@ -161,3 +171,63 @@ called_by_clock m s hall kits h are by k q d p lt few =
     let kit = slice_index_or kits k d in
     let long = alike_length badge_of (badge_for k) kit.posters.items hall.queues.items (are.each k d lt).posters ∙ queue_count hall.lockstep s hall.pool hall.queues.items h.queues in
     by k d lt q p (omega (arith, few, long))
+
+-- ==== the parts that the controller kept go with its posters, queue after queue
+
+-- as many lists as posters
+lists_count : (ps : List Sender) (lists : List (Vec Segment)) → parts_handed_out ps ≡ parts_in lists → length lists ≡ length ps
+lists_count ps lists same =
+    let posters = length-map ps (λ (p : Sender). p.view.sealed) in
+    let many = length-map lists (λ (v : Vec Segment). v.items) in
+    let all = ap length same in
+    omega (arith, posters, many, all)
+
+-- the first poster handed out what stands in the first list
+first_parts : (ps : List Sender) (lists : List (Vec Segment)) → parts_handed_out ps ≡ parts_in lists → 0 < length ps → (p : Sender) (v : Vec Segment) → (get_or ps 0 p).view.sealed ≡ (get_or lists 0 v).items
+first_parts [] lists same some p v = absurd (omega (arith, some))
+first_parts (x ∷ ps) [] same some p v = let all = ap length same in absurd (omega (arith, all))
+first_parts (x ∷ ps) (y ∷ lists) same some p v = ap (λ l. get_or l 0 []) same
+
+-- and the others what stands in the others
+other_parts : (x : Sender) (ps : List Sender) (lists : List (Vec Segment)) → parts_handed_out (x ∷ ps) ≡ parts_in lists → parts_handed_out ps ≡ parts_in (remove lists 0)
+other_parts x ps [] same = let all = ap length same in absurd (omega (arith, all))
+other_parts x ps (y ∷ lists) same = ap (drop 1) same
+
+module _ (kits : List Kit) (lists : List (Vec Segment)) (sealed : AreSealed kits lists) (have : HavePosters kits) where
+  -- there is a list for the next queue
+  pub has_list : 0 < length kits → 0 < length lists
+  has_list some =
+      let k = length kits - 1 in
+      let lt : k < length kits = omega (arith, some) in
+      let d = some_of kits k lt in
+      let many = lists_count (get_or kits k d).posters.items lists (sealed k d (omega (arith, some))) in
+      let posters = have k d lt in
+      omega (arith, many, posters)
+
+  -- which the last kit's next poster handed out
+  pub sealed_next : (v : Vec Segment) → v ≡ get_or lists 0 v → HasSealedNext kits v.items
+  sealed_next v is k d p last =
+      first_parts (get_or kits k d).posters.items lists (sealed k d last) (have k d (omega (arith, last))) p v ∙ ap (λ (z : Vec Segment). z.items) (sym is)
+
+  -- behind that queue the others are left
+  pub sealed_rest : (entries : List Entry) (kits' : List Kit) → EachEndsPoster entries kits kits' → AreSealed kits' (remove lists 0)
+  sealed_rest entries kits' ends k d last =
+      let same = ends.count in
+      let e = ends.each k d (omega (arith, last, same)) in
+      other_parts e.poster (get_or kits' k d).posters.items lists (ap parts_handed_out (sym e.posters) ∙ sealed k d (omega (arith, last, same)))
+
+-- the last of the posters that were given handed these parts out
+pub given_sealed : (before : List Kit) (posters : List Sender) (after : List Kit) (parts : List Segment) → EachGivesPoster before posters after → HasSealedNext before parts → HaveSealed posters parts
+given_sealed before posters after parts gives next k p last =
+    let count = gives.count in
+    let lt : k < length before = omega (arith, last, count) in
+    let d = some_of before k lt in
+    let given = (gives.each k d p lt).posters in
+    ap (λ l. (get_or l 0 p).view.sealed) (sym given) ∙ next k d p (omega (arith, last, count))
+
+-- with the controller's kit behind all others
+pub all_sealed : (kits kits' : List Kit) (c : Controller) → kits' ≡ kits ++ c.kit ∷ [] → parts_handed_out c.kit.posters.items ≡ parts_in c.sealed.items → AreSealed kits' c.sealed.items
+all_sealed kits kits' c grown is k d last =
+    let more = ap length grown ∙ length-append kits (c.kit ∷ []) in
+    let at : k ≡ length kits = omega (arith, last, more) in
+    ap (λ (z : Kit). parts_handed_out z.posters.items) (ap (λ m. get_or kits' m d) at ∙ last_kit kits kits' c.kit (length kits) refl grown d) ∙ is

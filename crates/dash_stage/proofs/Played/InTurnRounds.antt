@@ -25,7 +25,7 @@ use Rattle.dash_stage.specs.Sharing.{HavePassesHeard, HaveHeardTheSame}
 use Rattle.dash_stage.specs.Stages.{IsStage}
 use Rattle.dash_stage.specs.Timeliness.{AreSound}
 use Rattle.dash_stage.specs.Asking.{IsAskedInTurn, AskInTurn, AskUpToNow}
-use Rattle.dash_stage.proofs.BlockTimes.Limits.{ends_early}
+use Rattle.dash_stage.proofs.BlockTimes.{ends_early}
 use Rattle.dash_stage.proofs.Ends.HallEnds.{some_of}
 use Rattle.dash_stage.proofs.Played.InTurn.{idle_front, in_thread, in_controller, thread_made, looper_made, idle_made}
 use Rattle.dash_loopers.proofs.LooperShares.{looper_parts}

@@ -10,7 +10,7 @@ use Rattle.looper_run.specs.Round.{is_ended}
 use Rattle.dash_hall.specs.declared.kit.Kit.{Kit}
 use Rattle.dash_loopers.specs.declared.looper.StageLooper.{StageLooper}
 use Rattle.dash_hall.specs.Kits.{HasSeenOver, OthersAreOver}
-use Rattle.dash_stage.proofs.Sharing.Casting.{first_more}
+use Rattle.dash_stage.proofs.Sharing.{each_more}
 
 -- of the loopers from n on, each but the main one has ended
 abbrev pub HaveEndedFrom : ℕ → List StageLooper → Type 0
@@ -32,7 +32,7 @@ module _ (s : Script) where
   over_back js js' ls ls' kits kits' l j kit some is_l rest count number seen grown grown' ended over =
       let more : length js' ≡ length js + 1 = ap length grown ∙ length-append js (j ∷ []) in (
         subst (λ (z : List StageLooper). HaveEndedFrom (length js') z) (sym rest) (subst (λ m. HaveEndedFrom m (remove ls 0)) (sym more) (other_ended (length js) ls ended some)),
-        subst (AreOverAmong s) (sym grown') (first_more (λ k (z : Kit). (looper : ℕ) → 0 < looper → k ≡ s.threads + looper → HasSeenOver s looper z) kits kit over
+        subst (AreOverAmong s) (sym grown') (each_more (λ k (z : Kit). (looper : ℕ) → 0 < looper → k ≡ s.threads + looper → HasSeenOver s looper z) kits kit over
             (λ looper later at.
             let same : l.number ≡ looper = omega (arith, number, count, at) in
             let past : 0 < 0 + length js = omega (arith, number, same, later) in

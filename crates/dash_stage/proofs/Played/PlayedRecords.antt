@@ -15,7 +15,7 @@ use Rattle.loop_model.specs.declared.journal.Journal.{Journal}
 use Rattle.loop_model.specs.declared.record.QueueRecord.{QueueRecord}
 use Rattle.loop_model.specs.declared.reply.Reply.TheVariants.{Disposed}
 use Rattle.loop_model.specs.Base.{empty_base}
-use Rattle.loop_model.specs.Answers.{has_disposed}
+use Rattle.loop_model.specs.Answers.{has_disposed, Setting}
 use Rattle.loop_model.specs.Dispatches.{act_dispatch, call_dispatch}
 use Rattle.loop_model.proofs.NumberLaws.{AreNumbered-known}
 use Rattle.loop_model.proofs.WellFormedLaws.{All_recursive, All_indexed}
@@ -42,7 +42,6 @@ use Rattle.dash_hall.specs.Kits.{badge_of, badge_for, IsHall, AreKitsOf}
 use Rattle.dash_loopers.specs.declared.looper.StageLooper.{StageLooper}
 use Rattle.dash_loopers.specs.Loopers.{is_disposal, calls_among, DisposesLast, HaveTold, IsLooperOf, IsSoundOn}
 use Rattle.dash_loopers.specs.PlayingLaws.{sound_front}
-use Rattle.loop_model.specs.Answers.{Setting}
 use Rattle.loop_model.specs.Legal.{IsLegal, AreNumbered}
 use Rattle.dash_stage.specs.declared.control.Controller.{Controller}
 use Rattle.dash_stage.specs.Leaving.{HaveGiven}
@@ -64,7 +63,7 @@ use Rattle.dash_stage.proofs.Played.Disposing.{befores_are, befores_end}
 use Rattle.dash_stage.proofs.Ends.HallEnds.{some_of}
 use Rattle.dash_loopers.proofs.OwnLooks.{NoneDisposes, LooksAtOwn, looks_at_own, none_elsewhere}
 use Rattle.dash_stage.proofs.Played.Standing.{HasLeftIn, HasStarted, HasFramed, StandsAt}
-use Rattle.dash_stage.proofs.Ends.TimelyRecords.{few, in_posters, within, history, number, is_seen, setting_is}
+use Rattle.dash_stage.proofs.Stages.Timely.{few, in_posters, within, history, number, is_seen, setting_is}
 
 -- the timings of calls
 abbrev timings : List SentCall → List Timing

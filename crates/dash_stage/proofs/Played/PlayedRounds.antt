@@ -37,12 +37,11 @@ use Rattle.dash_stage.specs.Stages.{IsStage, AreLoopers, LoopersGoOn}
 use Rattle.dash_stage.specs.Sharing.{HaveSeenTheSame}
 use Rattle.dash_stage.specs.Timeliness.{whole_on, AreSound, IsAtTime}
 use Rattle.dash_stage.specs.Playing.{CallsCameFirst, befores_called, IsMet, AreCallsOnTime, IsTimelyLooper, IsInTime, AreInTime, IsInStep, PlaysOn}
-use Rattle.dash_stage.proofs.BlockTimes.BlocksFirst.{first_more}
+use Rattle.dash_stage.proofs.BlockTimes.{first_more}
 use Rattle.dash_loopers.proofs.LooperShares.{looper_parts, own_kept}
 use Rattle.loop_model.proofs.AfterLaws.{disposed_stays}
 use Rattle.dash_stage.proofs.Stages.Timely.{none_of, befores-append, befores_count, on_time_more, clock_stays, befores_at}
-use Rattle.dash_stage.proofs.Stages.StageWhole.{as_many, queues_count, looper_entries, looper_sees, sound_front, none_behind, threads_heard, thread_made_none}
-use Rattle.dash_stage.proofs.Moves.StageMoves.{none_between}
+use Rattle.dash_stage.proofs.Stages.StageWhole.{as_many, queues_count, looper_entries, looper_sees, sound_front, none_behind, threads_heard, thread_made_none, none_between}
 use Rattle.dash_stage.proofs.Stages.StageTurns.{heard_entries}
 use Rattle.dash_stage.proofs.Played.RoundTimes.{calls_on_time, befores_called-count, looks_at}
 use Rattle.dash_stage.proofs.Played.PlayedStage.{heard_come, own_count, elsewhere_count, still_on_time}

@@ -40,11 +40,9 @@ use Rattle.dash_stage.specs.Playing.{AreAtBlock, LiesAhead, CallsCameFirst, IsIn
 use Rattle.dash_stage.proofs.Controller.Controls.{time_by_controller}
 use Rattle.dash_stage.proofs.Stages.Timely.{clock_stays, has_disposed_same, on_time_open, on_time_gone}
 use Rattle.run_model.proofs.FreshLaws.{nothing_fresh, fresh_moved}
-use Rattle.dash_stage.proofs.BlockTimes.BlocksFirst.{first_block, first_one, all_threads}
+use Rattle.dash_stage.proofs.BlockTimes.{first_block, first_one, all_threads}
 use Rattle.dash_stage.proofs.Ends.HallEnds.{some_of}
-use Rattle.dash_stage.proofs.Stages.StageWhole.{queues_count, controller_entries, sound_grown, none_behind}
-use Rattle.dash_stage.proofs.Moves.StageMoves.{controls_above, moved_is_open, longer, turned_on, turned_left, grown_by_turns, sound_by_turns, over_is_disposed}
-use Rattle.dash_stage.proofs.Stages.Turned.{Turned, MovedOn}
+use Rattle.dash_stage.proofs.Stages.StageWhole.{queues_count, controller_entries, sound_grown, none_behind, controls_above, moved_is_open, longer, turned_on, turned_left, grown_by_turns, sound_by_turns, over_is_disposed, Turned, MovedOn}
 use Rattle.dash_stage.proofs.Stages.StageTurns.{heard_entries, only_threads}
 use Rattle.dash_stage.proofs.Played.PlayedStage.{played_kept, sound_before}
 

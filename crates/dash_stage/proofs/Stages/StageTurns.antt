@@ -1,16 +1,16 @@
--- What a block of the threads, and the controller's turns that move no time, make of what all senders have seen of each queue.
-use Rattle.std.proofs.Common.{◌≡◌, ◌≢◌, ◌<◌, ◌≤◌, ◌+◌, ◌==◌, ◌⊎◌, inl, inr, ℕ, Bool, suc, true, ◌-◌, false, List, [], ◌∷◌, ◌++◌, map, length, filter, refl, sym, ap, ◌∙◌, subst, arith}
-use Rattle.std.specs.Prelude.{slice_index_or, IsTrue}
+-- What a stage's beginning, a block and the controller's turns make of what all senders have seen.
+use Rattle.std.proofs.Common.{◌≡◌, ◌≢◌, ◌<◌, ◌≤◌, ◌+◌, ◌==◌, ◌⊎◌, inl, inr, ℕ, Bool, suc, true, ◌-◌, false, List, [], ◌∷◌, ◌++◌, map, length, filter, refl, sym, ap, ◌∙◌, subst, arith, true≢false, Option, Some, None, ap₂}
+use Rattle.std.specs.Prelude.{slice_index_or, IsTrue, is_some, not, if◌then◌else◌}
 use Rattle.std.specs.List.{AllByRecursion}
-use Rattle.std.proofs.lemmas.Bool.{ne_eqb}
-use Rattle.std.proofs.lemmas.List.{length-append, length-replicate}
+use Rattle.std.proofs.lemmas.Bool.{ne_eqb, cases_Bool, and_from, false_from_ne_true}
+use Rattle.std.proofs.lemmas.List.{length-append, length-replicate, get_or_default}
 use mathlib.Core.List.{IsPrefix}
 use mathlib.Core.Logic.{dite}
 use native.Mathlib.Decide.{ℕ_discrete, dec_lt}
 use Rattle.loop_model.specs.declared.entry.Entry.{Entry}
 use Rattle.loop_model.specs.Base.{empty_base}
-use Rattle.loop_model.specs.Entries.{is_next, is_disposed}
-use Rattle.loop_model.specs.Legal.{IsLegal, AreNumbered}
+use Rattle.loop_model.specs.Entries.{is_next, is_disposed, is_quit_done}
+use Rattle.loop_model.specs.Legal.{IsLegal, AreNumbered, CallFitsTime}
 use Rattle.loop_model.proofs.NumberLaws.{AreNumbered-known}
 use Rattle.loop_model.proofs.Prefixes.{prefix_self}
 use Rattle.dash_script.specs.declared.script.Block.{Block}
@@ -18,10 +18,10 @@ use Rattle.dash_script.specs.declared.script.Line.{Line}
 use Rattle.dash_script.specs.declared.script.Script.{Script}
 use Rattle.dash_script.specs.Reading.{times_rise}
 use Rattle.looper_run.specs.Holding.{Sender}
-use Rattle.run_model.specs.Planned.{controller, sender_count, AreFor, entries_by, token_in, TimedCommand, lines_of, labels_on, lines_on}
+use Rattle.run_model.specs.Planned.{controller, sender_count, AreFor, entries_by, token_in, TimedCommand, lines_of, labels_on, lines_on, looper_sender}
 use Rattle.run_model.specs.Moments.{in_lockstep}
 use Rattle.run_model.specs.Parts.{lines_in}
-use Rattle.run_model.specs.Control.{is_call_in_time, is_called_in_time, are_before_quit, ends_halted, befores, before, InBlock, is_on_time, are_on_time, AreReached}
+use Rattle.run_model.specs.Control.{is_call_in_time, is_called_in_time, are_before_quit, ends_halted, befores, before, InBlock, is_on_time, are_on_time, AreReached, is_advance, is_halt, come_first}
 use Rattle.run_model.specs.Run.{are_in_order}
 use Rattle.run_model.proofs.RunLaws.{entries_by-append, entries_by-others, lines_on-append}
 use Rattle.dash_threads.specs.declared.thread.PostingThread.{PostingThread}
@@ -31,24 +31,41 @@ use Rattle.dash_stage.specs.declared.stage.Stage.{Stage}
 use Rattle.dash_hall.specs.Growth.{own}
 use Rattle.dash_stage.specs.Controllers.{are_advances, IsMoving}
 use Rattle.dash_threads.specs.Threads.{IsUpTo, HasCalled}
-use Rattle.dash_loopers.specs.Loopers.{IsSoundOn, is_disposal, setting_for, is_given_up, LooperKeeps}
-use Rattle.dash_stage.specs.Stages.{IsStage, HaveRunInLockstep, LoopersGoOn}
-use Rattle.dash_hall.specs.Hearing.{AtEach, HaveHeard}
-use Rattle.dash_stage.specs.Sharing.{HaveSeenTheSame}
-use Rattle.dash_stage.specs.Timeliness.{whole_on, AreSound, IsTimelyUpTo, AreTimelyUpTo, TurnsOn, EachTurnsOn, HasHaltedLast}
-use Rattle.dash_stage.specs.Playing.{AreAtBlock}
+use Rattle.dash_loopers.specs.Loopers.{IsSoundOn, is_disposal, setting_for, is_given_up, LooperKeeps, HasNoneDue, posters_of, until_of}
+use Rattle.dash_stage.specs.Stages.{IsStage, HaveRunInLockstep, LoopersGoOn, AreThreads, AreLoopers}
+use Rattle.dash_hall.specs.Hearing.{AtEach, HaveHeard, seen_by}
+use Rattle.dash_stage.specs.Sharing.{HaveSeenTheSame, OfThreads, OfLoopers}
+use Rattle.dash_stage.specs.Timeliness.{whole_on, AreSound, IsTimelyUpTo, AreTimelyUpTo, TurnsOn, EachTurnsOn, HasHaltedLast, AreRested, MovesNot, WaitForNothing}
+use Rattle.dash_stage.specs.Playing.{AreAtBlock, befores_called, HaveBegun, IsInStep}
 use Rattle.dash_loopers.proofs.OwnLooks.{NoneDisposes}
 use Rattle.dash_loopers.proofs.Disposing.{lines_dispose_nothing, none_of_all, none_answered}
 use Rattle.dash_stage.proofs.Controller.Controls.{looks_dispose}
-use Rattle.dash_stage.proofs.BlockTimes.Blocks.{lines_more}
+use Rattle.dash_stage.proofs.BlockTimes.{lines_more, main_reached, nothing_first}
 use Rattle.run_model.proofs.FreshLaws.{all_reached_on, one_reached}
-use Rattle.dash_stage.proofs.BlockTimes.BlocksReached.{main_reached}
 use Rattle.run_model.proofs.BlockOrder.{called_in, in_order_block, in_order_one}
 use Rattle.dash_stage.proofs.Stages.Timely.{back_all, in_time_one, in_time_more, before_quit_one, before_quit_block, moves_quit_not, timely_others, timely_block}
 use Rattle.dash_stage.proofs.Ends.HallEnds.{some_of}
-use Rattle.dash_stage.proofs.Stages.Turned.{Turned}
-use Rattle.dash_stage.proofs.Stages.StageWhole.{as_many, controller_entries, thread_entries, looper_made_none, sound_front, sound_grown, none_behind}
-use Rattle.dash_stage.proofs.Moves.StageMoves.{controls_above, longer, turned_on, turned_left, sound_by_turns}
+use Rattle.dash_stage.proofs.Stages.StageWhole.{Turned, as_many, controller_entries, thread_entries, looper_made_none, sound_front, sound_grown, none_behind, controls_above, longer, turned_on, turned_left, sound_by_turns, queues_count}
+use Rattle.loop_model.specs.declared.call.Call.{Call}
+use Rattle.loop_model.specs.declared.call.Call.TheVariants.{Post, Barrier, Unbarrier, Remove, Quit, Next, Advance, Halt}
+use Rattle.loop_model.specs.declared.reply.Reply.{Reply}
+use Rattle.loop_model.specs.declared.reply.Reply.TheVariants.{QuitDone, NotAllowed}
+use Rattle.loop_model.specs.Live.{live}
+use Rattle.loop_model.specs.Pick.{first_eligible, pick}
+use Rattle.loop_model.specs.Answers.{Setting, answer, clock, quit_place, quit_reply, has_disposed, has_halted}
+use Rattle.loop_model.proofs.LegalLaws.{IsLegal-last}
+use Rattle.looper_run.specs.Round.{is_ended}
+use Rattle.run_model.proofs.ControlLaws.{advance_alone}
+use Rattle.std.specs.Option.{option_map}
+use Rattle.atomic_table.specs.Seated.{TableId}
+use Rattle.shared_queue.specs.Known.{Shared}
+use Rattle.loop_model.specs.Items.{when_of}
+use Rattle.run_model.specs.Loopers.{first_looper}
+use Rattle.dash_hall.specs.Kits.{badge_of, badge_for, ArePostersOf, IsHall, AreUnseen}
+use Rattle.dash_hall.proofs.Badges.{alike_length, queue_count}
+use Rattle.dash_loopers.proofs.LooperShares.{looper_posters}
+
+-- ==== what a block of the threads, and the controller's turns that move no time, make of what all senders have seen of each queue
 
 -- ---- lists and histories
 
@@ -266,3 +283,176 @@ pub go_on_kept : (R : List Sender → List Sender → Type 0) (ls ls' : List Sta
 go_on_kept R ls ls' kept on k d lt =
     let within : k < length ls = subst (λ (n : ℕ). k < n) kept.long lt in
     ap is_given_up (kept.each k d within).last ∙ on k d within
+
+-- ==== the controller's turns at the end: its quits and its halt are in time
+
+-- ---- the halt
+
+-- a halt is in time
+pub halt_in_time : (es : List Entry) (c : Call) (r : Reply) → is_halt c ≡ true → is_call_in_time es c r ≡ true
+halt_in_time es (Halt now) r h = refl
+halt_in_time es (Post p) r h = absurd cc
+halt_in_time es (Barrier now) r h = absurd cc
+halt_in_time es (Unbarrier t) r h = absurd cc
+halt_in_time es (Remove f) r h = absurd cc
+halt_in_time es (Quit safe now) r h = absurd cc
+halt_in_time es (Next now) r h = absurd cc
+halt_in_time es (Advance now) r h = absurd cc
+
+-- and moves no time
+pub halt_moves_not : (c : Call) → is_halt c ≡ true → is_advance c ≡ false
+halt_moves_not c halts = false_from_ne_true (is_advance c) (λ moves. true≢false (sym halts ∙ (advance_alone c moves).0))
+
+-- ---- the quits
+
+-- the number of senders changes nothing of what is due
+pick_same : (m now : ℕ) (es : List Entry) → pick (empty_base m) es now ≡ pick (empty_base 0) es now
+unfolding pick first_eligible live
+pick_same m now es = refl
+
+module _ (set : Setting) (m : ℕ) (es : List Entry) (side : set.main ≡ false) (lockstep : set.lockstep ≡ true) (quiet : HasNoneDue (empty_base m) es (clock (empty_base m) es)) where
+  -- a quit of a queue that isn't quitting is done
+  quit_done : (safe : Bool) (now : ℕ) (r : Reply) → answer set (empty_base m) es (Quit safe now) ≡ Some r → is_quit_done r ≡ true
+  unfolding answer
+  quit_done safe now r is =
+      let said : Some (if set.main then NotAllowed else quit_reply (quit_place (empty_base m) es)) ≡ Some QuitDone =
+      ap (λ (b : Bool). Some (if b then NotAllowed else quit_reply (quit_place (empty_base m) es))) side ∙ ap (λ (o : Option ℕ). Some (quit_reply o)) quiet.not_quitting in
+      let same : Some QuitDone ≡ Some r = sym said ∙ is in
+      let reply : QuitDone ≡ r = cc in
+      ap is_quit_done (sym reply)
+
+  -- and none is due at its moment
+  none_due : (now : ℕ) → now ≡ clock (empty_base m) es → is_some (pick (empty_base 0) es now) ≡ false
+  none_due now at = ap is_some (sym (pick_same m now es) ∙ (ap (pick (empty_base m) es) at ∙ quiet.none))
+
+  -- so a call that moves no time is in time
+  in_time_by_call : (c : Call) (r : Reply) → answer set (empty_base m) es c ≡ Some r → CallFitsTime true (clock (empty_base m) es) c → is_advance c ≡ false → is_call_in_time es c r ≡ true
+  in_time_by_call (Quit safe now) r is at h = and_from _ _ (quit_done safe now r is) (ap not (none_due now at))
+  in_time_by_call (Halt now) r is at h = refl
+  in_time_by_call (Post p) r is at h = refl
+  in_time_by_call (Barrier now) r is at h = refl
+  in_time_by_call (Unbarrier t) r is at h = refl
+  in_time_by_call (Remove f) r is at h = refl
+  in_time_by_call (Next now) r is at h = refl
+  in_time_by_call (Advance now) r is at h = absurd cc
+
+-- on a side queue that has none due, what moves no time is in time
+side_in_time : (s : Script) (q : ℕ) (es : List Entry) → 0 < q → HasNoneDue (empty_base (sender_count s)) es (clock (empty_base (sender_count s)) es) → IsInTimeBy MovesNot s q es
+side_in_time s q es side quiet e sound moves_not =
+    let may = IsLegal-last (setting_for s q) (empty_base (sender_count s)) es e sound.legal in
+    in_time_by_call (setting_for s q) (sender_count s) es (ne_eqb q 0 (λ z. absurd (omega (arith, z, side)))) refl quiet e.call e.reply may.reply may.timely moves_not
+
+-- main's queue, and each whose looper has ended, is as it was
+abbrev pub AreKeptWhereEnded : List StageLooper → Controller → Controller → Type 0
+AreKeptWhereEnded ls first now = (q : ℕ) (d : Sender) → (0 ≡ q) ⊎ ((l : StageLooper) → is_ended (slice_index_or ls q l).last ≡ true) → slice_index_or now.kit.posters.items q d ≡ slice_index_or first.kit.posters.items q d
+
+-- so it is after a turn on the queue of a looper that hasn't ended
+pub kept_where_ended : (ls : List StageLooper) (first now after : Controller) (n : ℕ) (l : StageLooper) → 0 < n → is_ended (slice_index_or ls n l).last ≡ false → AreKeptWhereEnded ls first now
+    → ((q : ℕ) (d : Sender) → q ≢ n → slice_index_or after.kit.posters.items q d ≡ slice_index_or now.kit.posters.items q d) → AreKeptWhereEnded ls first after
+kept_where_ended ls first now after n l side going kept elsewhere q d why = elsewhere q d (apart why) ∙ kept q d why
+  where
+    apart : (0 ≡ q) ⊎ ((l : StageLooper) → is_ended (slice_index_or ls q l).last ≡ true) → q ≢ n
+    apart (inl main) at = absurd (omega (arith, main, at, side))
+    apart (inr ended) at = true≢false (sym (subst (λ (m : ℕ). is_ended (slice_index_or ls m l).last ≡ true) at (ended l)) ∙ going)
+
+-- what the quits left of loopers that have come to rest and haven't ended is in time, where no other queue was quit
+pub quit_in_time : (s : Script) (st : Stage) (c : Controller) → IsStage s st → AreKeptWhereEnded st.loopers.items st.controller c → AreRested s st → (q : ℕ) (d : Sender) → q < length st.controller.kit.posters.items
+    → (slice_index_or c.kit.posters.items q d ≡ slice_index_or st.controller.kit.posters.items q d) ⊎ IsInTimeBy MovesNot s q (whole_on st.controller q d)
+quit_in_time s st c is kept rested q d lt = dite (ℕ_discrete q 0)
+    (λ main. inl (kept q d (inl (sym main))))
+    (λ side.
+    let in_loopers : q < length st.loopers.items = subst (λ (n : ℕ). q < n) (queues_count s st is) lt in
+    let l : StageLooper = some_of st.loopers.items q in_loopers in
+    elim (cases_Bool (is_ended (slice_index_or st.loopers.items q l).last)) [
+      | inl ended ↦ inl (kept q d (inr (λ k. subst (λ (z : StageLooper). is_ended z.last ≡ true) (get_or_default st.loopers.items q l k in_loopers) ended)))
+      | inr going ↦ inr (side_in_time s q (whole_on st.controller q d) (omega (arith, side)) ((rested q l d in_loopers).quiet going))
+    ])
+
+-- ==== a stage whose senders have seen nothing
+
+-- posters that have seen nothing have seen the same
+unseen_same : (ps cs : List Sender) → length ps ≡ length cs → AreUnseen ps → AreUnseen cs → seen_by ps ≡ seen_by cs
+unseen_same [] [] long a b = refl
+unseen_same [] (c ∷ cs) long a b = absurd (omega (arith, long))
+unseen_same (p ∷ ps) [] long a b = absurd (omega (arith, long))
+unseen_same (p ∷ ps) (c ∷ cs) long a b =
+    ap₂ (λ (x : List Entry) (xs : List (List Entry)). x ∷ xs) (a 0 p (omega arith) ∙ sym (b 0 c (omega arith)))
+    (unseen_same ps cs (omega (arith, long)) (λ q d lt. a (suc q) d (omega (arith, lt))) (λ q d lt. b (suc q) d (omega (arith, lt))))
+
+-- senders' posters of the same queues are as many
+as_long : (k n : ℕ) (qs : List (Shared TableId)) (ps cs : List Sender) → ArePostersOf k qs ps → ArePostersOf n qs cs → length ps ≡ length cs
+as_long k n qs ps cs a b = alike_length badge_of (badge_for k) ps qs a ∙ sym (alike_length badge_of (badge_for n) cs qs b)
+
+-- with no call seen and no block run each history is timely
+nothing_timely : (s : Script) (q : ℕ) → IsTimelyUpTo s [] q []
+unfolding is_called_in_time are_before_quit befores are_in_order
+nothing_timely s q = record { controls = refl; before_quit = refl; threads = λ k lt. refl; in_order = refl; reached = λ main. tt }
+
+-- there is no message before the first call
+nothing_eligible : (n : ℕ) → option_map when_of (first_eligible (empty_base n) []) ≡ None
+unfolding first_eligible live
+nothing_eligible n = refl
+
+-- and the queue is neither over nor quitting, and has none due
+nothing_due : (n : ℕ) → HasNoneDue (empty_base n) [] (clock (empty_base n) [])
+unfolding has_disposed has_halted quit_place pick first_eligible live clock
+nothing_due n = record { going = refl; not_quitting = refl; none = refl }
+
+-- and its clock shows 0
+nothing_timed : (n : ℕ) → clock (empty_base n) [] ≡ 0
+unfolding clock
+nothing_timed n = refl
+
+-- no call was made
+nothing_called : (k : ℕ) → are_on_time [] (befores_called k []) ≡ true
+unfolding befores_called
+nothing_called k = refl
+
+nothing_stood : (k : ℕ) → are_on_time [] (befores k []) ≡ true
+unfolding befores
+nothing_stood k = refl
+
+module _ (s : Script) (st : Stage) (k : ℕ) (is_hall : IsHall s st.hall) where
+  -- the histories are timely, and all have seen the same
+  pub begins_timely : AreThreads s st.hall st.threads.items → AreLoopers s st.hall st.loopers.items → ArePostersOf k st.hall.queues.items st.controller.kit.posters.items
+      → OfThreads AreUnseen st.threads.items → OfLoopers AreUnseen st.loopers.items → AreUnseen st.controller.kit.posters.items → AreTimelyUpTo s [] st
+  begins_timely threads loopers controller of_threads of_loopers unseen = record {
+    same = record {
+      threads = λ n d lt. unseen_same (slice_index_or st.threads.items n d).kit.posters.items st.controller.kit.posters.items
+          (as_long (slice_index_or st.threads.items n d).number k st.hall.queues.items (slice_index_or st.threads.items n d).kit.posters.items st.controller.kit.posters.items (threads.1 n d lt).0.posters controller) (of_threads n d lt) unseen;
+      loopers = λ n d lt. unseen_same (posters_of (slice_index_or st.loopers.items n d)) st.controller.kit.posters.items
+          (as_long _ k st.hall.queues.items (posters_of (slice_index_or st.loopers.items n d)) st.controller.kit.posters.items (looper_posters s st.hall is_hall (slice_index_or st.loopers.items n d) (loopers.1 n d lt).0) controller) (of_loopers n d lt) unseen;
+      controller = refl;
+    };
+    timely = λ sound q d lt. subst (IsTimelyUpTo s [] q) (sym (unseen q d lt)) (nothing_timely s q);
+  }
+
+  -- the loopers wait for nothing
+  pub begins_rested : AreLoopers s st.hall st.loopers.items → ArePostersOf k st.hall.queues.items st.controller.kit.posters.items → AreUnseen st.controller.kit.posters.items → WaitForNothing st.loopers.items → AreRested s st
+  begins_rested loopers controller unseen waits = λ q l d lt.
+      let queues : length st.controller.kit.posters.items ≡ s.loopers = alike_length badge_of (badge_for k) st.controller.kit.posters.items st.hall.queues.items controller ∙ queue_count st.hall.lockstep s st.hall.pool st.hall.queues.items is_hall.queues in
+      let none = unseen q d (subst (λ (n : ℕ). q < n) (loopers.0 ∙ sym queues) lt) in
+      let wait = waits q l lt in record {
+        quiet = λ on. subst (λ (es : List Entry). HasNoneDue (empty_base (sender_count s)) es (clock (empty_base (sender_count s)) es)) (sym none) (nothing_due (sender_count s));
+        waits = λ on. ap until_of wait ∙ sym (ap (λ (es : List Entry). option_map when_of (first_eligible (empty_base (sender_count s)) es)) none ∙ nothing_eligible (sender_count s));
+        ended = λ over. absurd (let wrong : false ≡ true = sym (ap is_ended wait) ∙ over in cc);
+      }
+
+  -- the queues are at time 0, and each looper stands at the state before the first act
+  pub begins_in_step : AreTimelyUpTo s [] st → AreLoopers s st.hall st.loopers.items → ArePostersOf k st.hall.queues.items st.controller.kit.posters.items → AreUnseen st.controller.kit.posters.items → st.time ≡ 0
+      → HaveBegun s st.loopers.items → IsInStep s st
+  begins_in_step timely loopers controller unseen zero begun = record {
+    same = timely.same;
+    in_time = λ sound q l d lt.
+        let queues : length st.controller.kit.posters.items ≡ s.loopers = alike_length badge_of (badge_for k) st.controller.kit.posters.items st.hall.queues.items controller ∙ queue_count st.hall.lockstep s st.hall.pool st.hall.queues.items is_hall.queues in
+        inl (ap (clock (empty_base (sender_count s))) (unseen q d (subst (λ (n : ℕ). q < n) (loopers.0 ∙ sym queues) lt)) ∙ (nothing_timed (sender_count s) ∙ sym zero));
+    first = λ sound q d lt. ap (come_first s.threads) (unseen q d lt) ∙ nothing_first s.threads;
+    played = λ sound n l lt. record {
+      state = first_looper s;
+      come = begun n l lt;
+      on_time = record {
+        own = λ d near. ap (λ es. are_on_time [] (befores_called (looper_sender s (slice_index_or st.loopers.items n l).number) es)) (unseen _ d near) ∙ nothing_called (looper_sender s (slice_index_or st.loopers.items n l).number);
+        elsewhere = λ r d apart near. ap (λ es. are_on_time [] (befores (looper_sender s (slice_index_or st.loopers.items n l).number) es)) (unseen r d near) ∙ nothing_stood (looper_sender s (slice_index_or st.loopers.items n l).number);
+      };
+    };
+  }

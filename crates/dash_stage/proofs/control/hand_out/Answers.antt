@@ -1,7 +1,7 @@
 use Rattle.std.proofs.Common.{◌≡◌, List, [], ◌∷◌, ◌++◌, sym, ap, ◌∙◌, subst}
 use Rattle.loop_model.specs.declared.segment.Segment.{Segment}
 use Rattle.dash_stage.specs.Timeliness.{HandsPartsOut}
-use Rattle.dash_stage.proofs.Controller.Sealing.{hands, hands_then}
+use Rattle.dash_stage.proofs.Controller.ControlTurns.{hands, hands_then}
 use Rattle.dash_stage.proofs.control.hand_out.Goals as goal
 
 pub returns-then-since-lt-MANY : goal.returns-then-since-lt-MANY

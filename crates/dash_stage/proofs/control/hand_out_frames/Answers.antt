@@ -3,7 +3,7 @@ use Rattle.std.specs.Prelude.{Result, IfOk, OnErr}
 use Rattle.loop_model.specs.declared.memory.NoMemory.{NoMemory}
 use Rattle.frame_phases.specs.declared.entry.FrameEntry.{FrameEntry}
 use Rattle.dash_stage.specs.Controllers.{HandsOutFrames}
-use Rattle.dash_stage.proofs.Controller.FrameSealing.{frames_handed}
+use Rattle.dash_stage.proofs.Controller.Controlling.{frames_handed}
 use Rattle.dash_stage.proofs.control.hand_out_frames.Goals as goal
 
 -- no memory for one part more: nothing was done

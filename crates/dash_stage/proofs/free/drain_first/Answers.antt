@@ -5,7 +5,7 @@ use Rattle.looper_run.specs.Round.{is_ended}
 use Rattle.run_model.specs.Moments.{Mode}
 use Rattle.run_model.specs.ByClock.{in_free_mode}
 use Rattle.dash_loopers.specs.declared.looper.StageLooper.{StageLooper}
-use Rattle.dash_stage.proofs.ByClock.ClockEnds.{each_set, loops_still}
+use Rattle.dash_stage.proofs.ByClock.{each_set, loops_still}
 use Rattle.dash_stage.proofs.free.drain_first.Goals as goal
 use Rattle.dash_loopers.specs.Looped.{HasLooped}
 

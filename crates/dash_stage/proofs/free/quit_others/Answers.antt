@@ -3,13 +3,11 @@ use Rattle.std.proofs.lemmas.Bool.{and_parts}
 use Rattle.run_model.specs.Moments.{Mode}
 use Rattle.run_model.specs.ByClock.{in_free_mode}
 use Rattle.dash_stage.specs.Controllers.{CanTurn}
-use Rattle.dash_stage.proofs.Controller.Controlling.{poster_count}
-use Rattle.dash_stage.proofs.Controller.GivingUp.{all_rung, still_no_less}
+use Rattle.dash_stage.proofs.Controller.Controlling.{poster_count, all_rung, still_no_less}
 use Rattle.dash_loopers.proofs.LooperMoments.{of_shown}
 use Rattle.std.specs.Prelude.{slice_index_or}
-use Rattle.dash_stage.proofs.ByClock.Behind.{sees_self, sees_one, quits_see}
-use Rattle.dash_stage.proofs.ByClock.ClockEnds.{in_free, in_its_mode}
-use Rattle.dash_stage.proofs.ByClock.ClockTurns.{may_quit, quits_more, quits_clocked, quitting_begins, quitting_ends}
+use Rattle.dash_stage.proofs.ByClock.{sees_self, sees_one, quits_see, in_free, in_its_mode}
+use Rattle.dash_stage.proofs.Controller.ControlTurns.{may_quit, quits_more, quits_clocked, quitting_begins, quitting_ends}
 use Rattle.dash_stage.proofs.free.quit_others.Goals as goal
 
 pub give_up-requires : goal.give_up-requires

@@ -6,8 +6,7 @@ use Rattle.dash_loopers.specs.Looped.{LoopsUntilStopped, HasLooped}
 use Rattle.run_model.specs.Moments.{Mode}
 use Rattle.run_model.specs.ByClock.{in_free_mode}
 use Rattle.dash_stage.specs.ByClock.{LoopsFor}
-use Rattle.dash_stage.proofs.ByClock.ClockEnds.{each_set, loops_still}
-use Rattle.dash_stage.proofs.ByClock.Looping.{one_set}
+use Rattle.dash_stage.proofs.ByClock.{each_set, loops_still, one_set}
 use Rattle.dash_stage.proofs.free.run_first.Goals as goal
 
 pub returns : goal.returns

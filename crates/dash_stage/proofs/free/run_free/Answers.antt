@@ -3,10 +3,10 @@ use Rattle.std.proofs.lemmas.Result.{IfOk-weaker}
 use Rattle.run_model.specs.Moments.{Mode}
 use Rattle.run_model.specs.ByClock.{in_free_mode}
 use Rattle.dash_stage.specs.RunEnds.{HasEndedByClock}
-use Rattle.dash_stage.proofs.BlockTimes.Limits.{playable}
-use Rattle.dash_stage.proofs.ByClock.ClockEnds.{begins_by_clock}
-use Rattle.dash_stage.proofs.Ends.Reported.{staged_by_clock}
-use Rattle.dash_stage.proofs.Sharing.StageShares.{stage_in_its_mode}
+use Rattle.dash_stage.proofs.BlockTimes.{playable}
+use Rattle.dash_stage.proofs.ByClock.{begins_by_clock}
+use Rattle.dash_stage.proofs.Stages.Timely.{staged_by_clock}
+use Rattle.dash_stage.proofs.Sharing.{stage_in_its_mode}
 use Rattle.dash_stage.proofs.free.run_free.Goals as goal
 
 pub play_by_clock-requires-clause-begun : goal.play_by_clock-requires-clause-begun

@@ -2,8 +2,7 @@ use Rattle.std.proofs.Common.{rules, ◌<◌, subst}
 use Rattle.run_model.specs.Moments.{Mode}
 use Rattle.run_model.specs.ByClock.{in_free_mode}
 use Rattle.dash_stage.specs.ByClock.{EachRuns, EachLoops}
-use Rattle.dash_stage.proofs.ByClock.Behind.{runs_kept, behind_first}
-use Rattle.dash_stage.proofs.ByClock.ClockEnds.{can_quit}
+use Rattle.dash_stage.proofs.ByClock.{runs_kept, behind_first, can_quit}
 use Rattle.dash_stage.proofs.free.run_main.Goals as goal
 
 pub hear_threads-requires : goal.hear_threads-requires

@@ -3,7 +3,7 @@ use Rattle.std.proofs.Common.{arith}
 use Rattle.run_model.specs.Moments.{Mode}
 use Rattle.run_model.specs.ByClock.{in_free_mode}
 use Rattle.dash_stage.specs.ByClock.{LoopsAlone}
-use Rattle.dash_stage.proofs.Sharing.Turns.{of_same}
+use Rattle.dash_stage.proofs.Sharing.{of_same}
 use Rattle.dash_stage.proofs.free.run_others.Goals as goal
 
 pub returns : goal.returns

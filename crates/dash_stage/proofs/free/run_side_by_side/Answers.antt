@@ -4,8 +4,7 @@ use Rattle.run_model.specs.ByClock.{in_free_mode}
 use Rattle.dash_hall.specs.Hearing.{AtEach}
 use Rattle.dash_loopers.specs.declared.looper.StageLooper.{StageLooper}
 use Rattle.dash_stage.specs.ByClock.{LoopsAlone, EachLoops, EachLoopsAlone, MainLoops, LoopSideBySide}
-use Rattle.dash_stage.proofs.ByClock.ClockEnds.{each_append}
-use Rattle.dash_stage.proofs.ByClock.Looping.{each_so, side_by_side}
+use Rattle.dash_stage.proofs.ByClock.{each_append, each_so, side_by_side}
 use Rattle.dash_stage.proofs.free.run_side_by_side.Goals as goal
 use Rattle.dash_loopers.specs.Looped.{HasLooped}
 

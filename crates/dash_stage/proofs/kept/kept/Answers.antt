@@ -12,9 +12,9 @@ use Rattle.dash_stage.specs.RunEnds.{HasEndedBy, HasEndedInLockstep}
 use Rattle.dash_stage.specs.Runs.{HaveRunAll}
 use Rattle.dash_stage.specs.Sharing.{HaveSeenTheSame, OfKits}
 use Rattle.dash_stage.specs.Stages.{HaveRunBy}
-use Rattle.dash_stage.proofs.BlockTimes.Limits.{playable}
-use Rattle.dash_stage.proofs.Sharing.Casting.{all_kits}
-use Rattle.dash_stage.proofs.Ends.Carried.{run_kept, planned_records, numbered_count, called_by_clock}
+use Rattle.dash_stage.proofs.BlockTimes.{playable}
+use Rattle.dash_stage.proofs.Sharing.{all_kits}
+use Rattle.dash_stage.proofs.Ends.Carried.{run_kept, planned_records, numbered_count, called_by_clock, all_sealed}
 use Rattle.dash_stage.proofs.Played.AskedAtEnd.{asked_at_end}
 use Rattle.dash_stage.proofs.Played.PlayedRecords.{loopers_of_records}
 use Rattle.dash_stage.proofs.Played.Standing.{StandsAt, stands_in_step, stands_by_clock}
@@ -22,11 +22,10 @@ use Rattle.dash_stage.proofs.Played.LoopersGive.{given_kept}
 use Rattle.dash_stage.proofs.Played.KitsTold.{told_kept}
 use Rattle.dash_stage.proofs.Played.KitsOver.{over_kept, last_kit}
 use Rattle.dash_stage.proofs.Controller.Controls.{controls_of_records}
-use Rattle.dash_stage.proofs.Ends.TimelyRecords.{kit_more, first_of_records, reached_of_records, timely_of_records, before_quit_of_records, halted_of_records, ended_in_step, all_sound}
-use Rattle.dash_stage.proofs.ByClock.Behind.{quits_behind}
-use Rattle.dash_stage.proofs.Moves.MovesRecords.{moves_of_records}
-use Rattle.dash_stage.proofs.Controller.SealedEnds.{all_sealed}
-use Rattle.dash_stage.proofs.Controller.FrameEnds.{all_frames_sealed}
+use Rattle.dash_stage.proofs.Stages.Timely.{kit_more, first_of_records, reached_of_records, timely_of_records, before_quit_of_records, halted_of_records, ended_in_step, all_sound}
+use Rattle.dash_stage.proofs.ByClock.{quits_behind}
+use Rattle.dash_stage.proofs.Moves.{moves_of_records}
+use Rattle.dash_stage.proofs.Ends.HallFrames.{all_frames_sealed}
 use Rattle.dash_stage.proofs.kept.kept.Goals as goal
 
 pub records-requires : goal.records-requires

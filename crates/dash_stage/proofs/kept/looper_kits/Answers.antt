@@ -1,12 +1,12 @@
 use Rattle.std.proofs.Common.{rules, ◌≤◌, ◌<◌, ◌∙◌, ap, length, arith}
 use Rattle.dash_loopers.specs.declared.looper.StageLooper.{StageLooper}
-use Rattle.dash_stage.proofs.Sharing.Casting.{looper_back, first_looper}
+use Rattle.dash_stage.proofs.Sharing.{looper_back, first_looper}
 use Rattle.dash_stage.proofs.Ends.Carried.{run_kept}
 use Rattle.dash_stage.proofs.Played.KitsOver.{over_back}
 use Rattle.dash_stage.proofs.Played.KitsTold.{told_back}
 use Rattle.dash_stage.proofs.Played.LoopersGive.{given_back}
 use Rattle.dash_hall.specs.Hearing.{HaveSeenAll}
-use Rattle.dash_stage.proofs.Ends.TimelyRecords.{looper_gives}
+use Rattle.dash_stage.proofs.Stages.Timely.{looper_gives}
 use Rattle.dash_stage.proofs.kept.looper_kits.Goals as goal
 use Rattle.dash_threads.specs.Threads.{AreByClock}
 

@@ -2,7 +2,7 @@ use Rattle.std.proofs.Common.{rules, ◌<◌, length}
 use Rattle.dash_hall.specs.Hearing.{HaveSeenAll}
 use Rattle.dash_threads.specs.Threads.{AreByClock}
 use Rattle.dash_stage.proofs.Ends.Carried.{thread_back, thread_ran, threads_start, ran_start}
-use Rattle.dash_stage.proofs.Ends.TimelyRecords.{thread_gives, none_yet}
+use Rattle.dash_stage.proofs.Stages.Timely.{thread_gives, none_yet}
 use Rattle.dash_stage.proofs.kept.thread_kits.Goals as goal
 
 pub each-preserved : goal.each-preserved

@@ -10,7 +10,7 @@ use Rattle.run_model.specs.Loopers.{first_looper}
 use Rattle.dash_loopers.specs.Played.{StandsBetweenRounds}
 use Rattle.dash_stage.specs.Timeliness.{WaitForNothing}
 use Rattle.dash_stage.specs.Playing.{HaveBegun}
-use Rattle.dash_stage.proofs.Sharing.Casting.{looper_made, first_more}
+use Rattle.dash_stage.proofs.Sharing.{looper_made, each_more}
 use Rattle.dash_stage.proofs.Ends.Carried.{other_unused}
 use Rattle.dash_stage.proofs.opening.loopers.Goals as goal
 
@@ -59,8 +59,8 @@ loop-number-preserved c =
       kits_left = record { from = made.0; unused = subst AreUnusedKits (sym c.remove.ensures.items) (other_unused at.kits.items left.unused some) };
       count = made.1;
       first = made.2;
-      unseen = subst (OfLoopers AreUnseen) (sym grown) (first_more (λ k (z : StageLooper). AreUnseen (posters_of z)) at.loopers.items one was.unseen unseen);
-      waits = subst WaitForNothing (sym grown) (first_more (λ k (z : StageLooper). WaitsForNothing z.last) at.loopers.items one was.waits new.waits);
-      begun = subst (HaveBegun s) (sym grown) (first_more (λ k (z : StageLooper). StandsBetweenRounds s z (first_looper s)) at.loopers.items one was.begun new.begun);
-      unheard = subst HaveHeardNothing (sym grown) (first_more (λ k (z : StageLooper). OfItsPasses (HasHeardAll []) z) at.loopers.items one was.unheard new.unheard);
+      unseen = subst (OfLoopers AreUnseen) (sym grown) (each_more (λ k (z : StageLooper). AreUnseen (posters_of z)) at.loopers.items one was.unseen unseen);
+      waits = subst WaitForNothing (sym grown) (each_more (λ k (z : StageLooper). WaitsForNothing z.last) at.loopers.items one was.waits new.waits);
+      begun = subst (HaveBegun s) (sym grown) (each_more (λ k (z : StageLooper). StandsBetweenRounds s z (first_looper s)) at.loopers.items one was.begun new.begun);
+      unheard = subst HaveHeardNothing (sym grown) (each_more (λ k (z : StageLooper). OfItsPasses (HasHeardAll []) z) at.loopers.items one was.unheard new.unheard);
     }

@@ -1,6 +1,6 @@
 use Rattle.std.proofs.Common.{◌∙◌, ap}
 use Rattle.dash_stage.specs.Controllers.{parts_in}
-use Rattle.dash_stage.proofs.Sharing.Casting.{nothing_more}
+use Rattle.dash_stage.proofs.Sharing.{nothing_more}
 use Rattle.dash_stage.proofs.opening.nothing_sealed.Goals as goal
 
 pub loop-looper-preserved : goal.loop-looper-preserved

@@ -4,9 +4,9 @@ use Rattle.dash_hall.specs.Kits.{IsKitOf}
 use Rattle.dash_stage.specs.declared.control.Controller.{Controller}
 use Rattle.dash_stage.specs.declared.stage.Stage.{Stage}
 use Rattle.dash_stage.proofs.Ends.Carried.{unused_kits}
-use Rattle.dash_stage.proofs.Sharing.Casting.{controller_of, last_kit}
-use Rattle.dash_stage.proofs.Controller.StageControls.{unused_by, unused_moves}
-use Rattle.dash_stage.proofs.Stages.StageBegins.{begins_timely, begins_rested, begins_in_step}
+use Rattle.dash_stage.proofs.Sharing.{controller_of, last_kit}
+use Rattle.dash_stage.proofs.Controller.Controls.{unused_by, unused_moves}
+use Rattle.dash_stage.proofs.Stages.StageTurns.{begins_timely, begins_rested, begins_in_step}
 use Rattle.dash_stage.proofs.Played.InTurn.{begins_in_turn}
 use Rattle.dash_stage.proofs.opening.set_up.Goals as goal
 

@@ -4,7 +4,7 @@ use Rattle.dash_threads.specs.declared.thread.PostingThread.{PostingThread}
 use Rattle.dash_hall.specs.Kits.{IsKitOf, AreUnseen, IsUnusedKit}
 use Rattle.dash_loopers.proofs.LooperPasses.{unheard_all}
 use Rattle.dash_stage.specs.Sharing.{OfThreads, OfPasses, AreUnheard}
-use Rattle.dash_stage.proofs.Sharing.Casting.{thread_of, first_kit, first_more}
+use Rattle.dash_stage.proofs.Sharing.{thread_of, first_kit, each_more}
 use Rattle.dash_stage.proofs.Ends.Carried.{thread_made}
 use Rattle.dash_stage.proofs.opening.threads.Goals as goal
 
@@ -41,8 +41,8 @@ loop-number-preserved c =
       first = made.3;
       run = made.4;
       unseen = subst (OfThreads AreUnseen) (sym c.in_ok-push.ensures.items)
-          (first_more (λ k (z : PostingThread). AreUnseen z.kit.posters.items) at.threads.items c.new.result was.unseen (subst (λ (z : Kit). AreUnseen z.posters.items) (sym c.new.ensures.kit) unused.posters));
+          (each_more (λ k (z : PostingThread). AreUnseen z.kit.posters.items) at.threads.items c.new.result was.unseen (subst (λ (z : Kit). AreUnseen z.posters.items) (sym c.new.ensures.kit) unused.posters));
       unheard = subst (OfPasses AreUnheard) (sym c.in_ok-push.ensures.items)
-          (first_more (λ k (z : PostingThread). AreUnheard z.kit.frames.items) at.threads.items c.new.result was.unheard (subst (λ (z : Kit). AreUnheard z.frames.items) (sym c.new.ensures.kit)
+          (each_more (λ k (z : PostingThread). AreUnheard z.kit.frames.items) at.threads.items c.new.result was.unheard (subst (λ (z : Kit). AreUnheard z.frames.items) (sym c.new.ensures.kit)
           (λ q p lt. unheard_all (slice_index_or kit.frames.items q p) (unused.heard q p lt) (unused.frames q p lt) (unused.own q p lt))));
     }

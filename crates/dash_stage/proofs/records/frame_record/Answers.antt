@@ -5,8 +5,7 @@ use Rattle.dash_hall.specs.declared.kit.Kit.{Kit}
 use Rattle.dash_hall.specs.Dealing.{GivesPass}
 use Rattle.dash_hall.proofs.HallSteps.{holder_within}
 use Rattle.dash_stage.specs.Ending.{AreOfNextPasses}
-use Rattle.dash_stage.proofs.Ends.HallFrames.{has_pass, takes_more, taken_own, taken_theirs}
-use Rattle.dash_stage.proofs.Controller.FrameEnds.{taken_sealed, taken_kits, whole_run}
+use Rattle.dash_stage.proofs.Ends.HallFrames.{has_pass, takes_more, taken_own, taken_theirs, taken_sealed, taken_kits, whole_run}
 use Rattle.dash_stage.proofs.records.frame_record.Goals as goal
 
 pub next_pass-requires : goal.next_pass-requires

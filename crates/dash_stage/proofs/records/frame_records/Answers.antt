@@ -9,8 +9,7 @@ use Rattle.dash_hall.specs.Kits.{frame_key, frame_constants}
 use Rattle.dash_stage.specs.Ending.{HaveAllPasses, AreFramesSealed}
 use Rattle.dash_hall.proofs.HallPasses.{given_all, given_are}
 use Rattle.dash_stage.proofs.Ends.HallEnds.{parted_at}
-use Rattle.dash_stage.proofs.Ends.HallFrames.{HaveEnded, ended_none, next_passes, next_constants, ends_more, ended_all}
-use Rattle.dash_stage.proofs.Controller.FrameEnds.{next_given, has_list, sealed_next, sealed_rest}
+use Rattle.dash_stage.proofs.Ends.HallFrames.{HaveEnded, ended_none, next_passes, next_constants, ends_more, ended_all, next_given, has_list, sealed_next, sealed_rest}
 use Rattle.dash_stage.proofs.records.frame_records.Goals as goal
 
 pub loop-choreographer-init : goal.loop-choreographer-init

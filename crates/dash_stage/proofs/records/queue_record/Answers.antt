@@ -1,6 +1,6 @@
 use Rattle.dash_stage.proofs.Ends.HallEnds.{next_in_order, ends_posters}
 use Rattle.run_model.specs.Planned.{history_of}
-use Rattle.dash_stage.proofs.Controller.SealedEnds.{given_sealed}
+use Rattle.dash_stage.proofs.Ends.Carried.{given_sealed}
 use Rattle.dash_stage.proofs.records.queue_record.Goals as goal
 
 pub retire-requires-clause-posters : goal.retire-requires-clause-posters

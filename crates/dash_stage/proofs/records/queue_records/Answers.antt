@@ -11,7 +11,7 @@ use Rattle.shared_queue.specs.Known.{Shared}
 use Rattle.run_model.specs.Planned.{history_of}
 use Rattle.dash_stage.specs.Ending.{AreSealed}
 use Rattle.dash_stage.proofs.Ends.HallEnds.{parted_at, next_have, next_queue, next_constants, kept_looper, retires_more, histories_more, retired_all}
-use Rattle.dash_stage.proofs.Controller.SealedEnds.{has_list, sealed_next, sealed_rest}
+use Rattle.dash_stage.proofs.Ends.Carried.{has_list, sealed_next, sealed_rest}
 use Rattle.dash_stage.proofs.records.queue_records.Goals as goal
 
 pub queue_record-requires : goal.queue_record-requires

@@ -3,8 +3,7 @@ use mathlib.Core.List.{IsPrefix}
 use Rattle.choreographer.specs.Known.{Pass}
 use Rattle.frame_phases.specs.declared.entry.FrameRecord.{FrameRecord}
 use Rattle.dash_stage.proofs.Ends.Carried.{numbered_count}
-use Rattle.dash_stage.proofs.Ends.HallFrames.{frames_kept}
-use Rattle.dash_stage.proofs.Controller.FrameEnds.{sealed_kept}
+use Rattle.dash_stage.proofs.Ends.HallFrames.{frames_kept, sealed_kept}
 use Rattle.dash_stage.proofs.records.records.Goals as goal
 
 pub close-requires-clause-kits : goal.close-requires-clause-kits

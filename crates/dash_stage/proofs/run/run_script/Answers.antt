@@ -2,11 +2,11 @@ use Rattle.std.proofs.Common.{arith, []}
 use Rattle.std.proofs.lemmas.Result.{IfOk-weaker}
 use Rattle.run_model.specs.FrameRecords.{in_round}
 use Rattle.run_model.specs.Moments.{in_lockstep}
-use Rattle.dash_stage.proofs.BlockTimes.Limits.{playable}
-use Rattle.dash_stage.proofs.Ends.Reported.{staged}
-use Rattle.dash_stage.proofs.Moves.MovesRecords.{moved_at_start}
+use Rattle.dash_stage.proofs.BlockTimes.{playable}
+use Rattle.dash_stage.proofs.Stages.Timely.{staged}
+use Rattle.dash_stage.proofs.Moves.{moved_at_start}
 use Rattle.dash_stage.proofs.Played.InTurn.{turn_later}
-use Rattle.dash_stage.proofs.Sharing.StageShares.{stage_in_its_mode}
+use Rattle.dash_stage.proofs.Sharing.{stage_in_its_mode}
 use Rattle.dash_stage.proofs.run.run_script.Goals as goal
 
 pub play-requires-clause-begun : goal.play-requires-clause-begun

@@ -1,10 +1,10 @@
 use Rattle.std.proofs.Common.{◌<◌, refl, arith}
 use Rattle.run_model.specs.Planned.{controller}
 use Rattle.dash_hall.proofs.Hearing.{ready_is}
-use Rattle.dash_stage.proofs.ByClock.Behind.{threads_still, kept_then, hears_on, hears_kept}
+use Rattle.dash_stage.proofs.ByClock.{threads_still, kept_then, hears_on, hears_kept}
 use Rattle.dash_stage.proofs.Controller.Controlling.{turns_on, in_queues, in_posters, has_poster, poster_count}
 use Rattle.dash_stage.proofs.Controller.ControlTurns.{with_poster}
-use Rattle.dash_stage.proofs.Sharing.StageShares.{controller_kept, posters_ready}
+use Rattle.dash_stage.proofs.Sharing.{controller_kept, posters_ready}
 use Rattle.dash_stage.proofs.share.hear_threads.Goals as goal
 
 pub index-requires : goal.index-requires

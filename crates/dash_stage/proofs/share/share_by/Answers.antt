@@ -9,7 +9,7 @@ use Rattle.dash_loopers.specs.Loopers.{LooperKeeps}
 use Rattle.dash_stage.specs.Sharing.{OfLoopers}
 use Rattle.dash_hall.proofs.Hearing.{ready_kept, known_kept, heard_then}
 use Rattle.dash_threads.proofs.ThreadShares.{thread_then}
-use Rattle.dash_stage.proofs.Sharing.SenderShares.{of_threads_then, of_loopers_then, loopers_within}
+use Rattle.dash_stage.proofs.Sharing.{of_threads_then, of_loopers_then, loopers_within}
 use Rattle.dash_loopers.proofs.LooperShares.{looper_then}
 use Rattle.dash_stage.proofs.share.share_by.Goals as goal
 

@@ -7,7 +7,7 @@ use Rattle.dash_hall.proofs.Sharing.{each_then}
 use Rattle.dash_threads.specs.Threads.{TellsPass, HearsPass}
 use Rattle.dash_loopers.specs.Loopers.{OfItsPasses, HearsPasses}
 use Rattle.dash_loopers.proofs.LooperPasses.{parts_there}
-use Rattle.dash_stage.proofs.Sharing.PassShares.{still_of, told_of, of_weaker, tells_hears, looper_told, looper_tells_hears}
+use Rattle.dash_stage.proofs.Sharing.{still_of, told_of, of_weaker, tells_hears, looper_told, looper_tells_hears}
 use Rattle.dash_stage.proofs.share.share_passes.Goals as goal
 
 pub tell_passes-requires-clause-other : goal.tell_passes-requires-clause-other

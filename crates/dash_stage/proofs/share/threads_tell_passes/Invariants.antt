@@ -1,6 +1,6 @@
 use Rattle.dash_hall.specs.Hearing.{PassHasHeard}
 use Rattle.dash_hall.proofs.Sharing.{FirstAre}
-use Rattle.dash_stage.proofs.Sharing.PassShares.{TellsAll}
+use Rattle.dash_stage.proofs.Sharing.{TellsAll}
 use Rattle.dash_stage.proofs.share.threads_tell_passes.Given as goal
 
 abbrev pub invariant-loop-k : goal.invariant-loop-k

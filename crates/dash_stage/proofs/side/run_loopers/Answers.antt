@@ -1,7 +1,7 @@
 use Rattle.std.proofs.Common.{arith}
 use Rattle.std.specs.Prelude.{slice_index_or}
 use Rattle.dash_stage.specs.Turns.{RunsInTurn}
-use Rattle.dash_stage.proofs.Sharing.Turns.{of_same, round_of}
+use Rattle.dash_stage.proofs.Sharing.{of_same, round_of}
 use Rattle.dash_stage.proofs.side.run_loopers.Goals as goal
 
 pub returns-then-some_gave_up-clause-round : goal.returns-then-some_gave_up-clause-round

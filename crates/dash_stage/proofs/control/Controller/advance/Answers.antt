@@ -4,7 +4,7 @@ use mathlib.Core.Logic.{dite}
 use native.Mathlib.Decide.{ℕ_discrete}
 use Rattle.dash_stage.specs.Timeliness.{MovesTo}
 use Rattle.dash_stage.proofs.Controller.Controlling.{poster_count}
-use Rattle.dash_stage.proofs.Controller.ControlWhole.{below_none, below_all, stuck_more, below_more, come_more}
+use Rattle.dash_stage.proofs.Controller.ControlTurns.{below_none, below_all, stuck_more, below_more, come_more}
 use Rattle.dash_stage.proofs.control.Controller.advance.Goals as goal
 
 pub loop-place-init : goal.loop-place-init

@@ -3,7 +3,7 @@ use Rattle.dash_stage.specs.Controllers.{IsController, HasReached}
 use Rattle.dash_stage.specs.ControlSteps.{KeepsPace}
 use Rattle.dash_stage.specs.Playing.{AreStuck}
 use Rattle.dash_stage.specs.Timeliness.{MovesTo}
-use Rattle.dash_stage.proofs.Controller.ControlWhole.{TurnsBelow, ComeBelow}
+use Rattle.dash_stage.proofs.Controller.ControlTurns.{TurnsBelow, ComeBelow}
 use Rattle.dash_stage.proofs.control.Controller.advance.Given as goal
 
 abbrev pub invariant-loop-place : goal.invariant-loop-place

@@ -7,9 +7,8 @@ use Rattle.loop_model.specs.declared.call.Call.TheVariants.{Advance}
 use Rattle.loop_model.specs.declared.reply.Reply.TheVariants.{Advanced}
 use Rattle.looper_run.specs.Holding.{State}
 use Rattle.dash_stage.proofs.Controller.Controlling.{in_queues, in_posters, own_poster, is_last, in_step}
-use Rattle.dash_stage.proofs.Controller.ControlKept.{by_kept, moving_kept, reached_kept}
-use Rattle.dash_stage.proofs.Controller.ControlTurns.{turned_none, turned_by, turned_to, turned_reached, turned_kept, turned_over, turned_late, still_over, still_stuck}
-use Rattle.dash_stage.proofs.Controller.ControlWhole.{turns_none, turns_one, turns_here, turned_alone}
+use Rattle.dash_stage.proofs.Controller.Controls.{by_kept, moving_kept, reached_kept}
+use Rattle.dash_stage.proofs.Controller.ControlTurns.{turned_none, turned_by, turned_to, turned_reached, turned_kept, turned_over, turned_late, still_over, still_stuck, turns_none, turns_one, turns_here, turned_alone}
 use Rattle.dash_stage.proofs.control.Controller.advance_one.Goals as goal
 
 pub index_mut-requires : goal.index_mut-requires

@@ -2,7 +2,7 @@ use Rattle.std.proofs.Common.{refl}
 use Rattle.std.proofs.lemmas.List.{get_or-set_other}
 use Rattle.dash_stage.proofs.Controller.Controlling.{in_choreographers, in_passes, own_pass, after_frame_turn}
 use Rattle.dash_loopers.proofs.LooperPulses.{none_rounded, some_rounded}
-use Rattle.dash_stage.proofs.Moves.PulseTimes.{asked_comes, looked}
+use Rattle.dash_stage.proofs.Moves.{asked_comes, looked}
 use Rattle.dash_stage.proofs.control.Controller.asked.Goals as goal
 
 pub index-requires : goal.index-requires

@@ -1,7 +1,6 @@
 use Rattle.std.proofs.Common.{arith}
 use Rattle.std.proofs.lemmas.Bool.{and_parts}
-use Rattle.dash_stage.proofs.Controller.Controlling.{poster_count}
-use Rattle.dash_stage.proofs.Controller.GivingUp.{quit_more, rest_less, nudged_kept, one_rung, still_no_less}
+use Rattle.dash_stage.proofs.Controller.Controlling.{poster_count, quit_more, rest_less, nudged_kept, one_rung, still_no_less}
 use Rattle.dash_stage.proofs.control.Controller.give_up.Goals as goal
 
 pub loop-looper-init : goal.loop-looper-init

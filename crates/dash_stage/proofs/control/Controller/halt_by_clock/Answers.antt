@@ -3,10 +3,8 @@ use Rattle.loop_model.specs.declared.call.Call.TheVariants.{Halt}
 use Rattle.loop_model.specs.declared.reply.Reply.TheVariants.{Halted}
 use Rattle.looper_run.specs.Holding.{State}
 use Rattle.dash_stage.proofs.Controller.Controlling.{after_turn}
-use Rattle.dash_stage.proofs.Controller.ControlKept.{closing_by_kept}
-use Rattle.dash_stage.proofs.Controller.ControlTurns.{turned_none, turned_over}
-use Rattle.dash_stage.proofs.Controller.ControlWhole.{turns_none, turns_one, each_turns, ends_with}
-use Rattle.dash_stage.proofs.ByClock.ClockTurns.{nothing_moves, halts_closing, halts_clocked, still_clocked}
+use Rattle.dash_stage.proofs.Controller.Controls.{closing_by_kept}
+use Rattle.dash_stage.proofs.Controller.ControlTurns.{turned_none, turned_over, turns_none, turns_one, each_turns, ends_with, nothing_moves, halts_closing, halts_clocked, still_clocked}
 use Rattle.dash_stage.proofs.control.Controller.halt_by_clock.Goals as goal
 
 pub returns-in-Halted : goal.returns-in-Halted

@@ -1,7 +1,7 @@
 use Rattle.std.proofs.Common.{◌≤◌, ◌∙◌, ℕ, subst}
-use Rattle.dash_stage.proofs.Controller.ControlKept.{quitting_kept, quitting_skips}
-use Rattle.dash_stage.proofs.Controller.ControlWhole.{turns_behind, turns_moving}
-use Rattle.dash_threads.proofs.ThreadSteps.{on_ok}
+use Rattle.dash_stage.proofs.Controller.Controls.{quitting_kept, quitting_skips}
+use Rattle.dash_stage.proofs.Controller.ControlTurns.{turns_behind, turns_moving}
+use Rattle.dash_threads.proofs.ThreadRuns.{on_ok}
 use Rattle.dash_stage.proofs.control.Controller.quit.Goals as goal
 
 pub returns-then-time_on-script-clause-quits : goal.returns-then-time_on-script-clause-quits

@@ -1,10 +1,8 @@
 use Rattle.std.proofs.Common.{◌≡◌}
 use Rattle.dash_hall.specs.Growth.{QuitsOf}
 use Rattle.looper_run.specs.Holding.{Sender}
-use Rattle.dash_stage.proofs.Controller.Controlling.{in_queues, in_posters, has_poster, own_poster, in_pool}
-use Rattle.dash_stage.proofs.Controller.ControlTurns.{with_poster}
-use Rattle.dash_stage.proofs.Controller.ControlWhole.{called_alone}
-use Rattle.dash_stage.proofs.Controller.GivingUp.{stands_there, none_rung}
+use Rattle.dash_stage.proofs.Controller.Controlling.{in_queues, in_posters, has_poster, own_poster, in_pool, stands_there, none_rung}
+use Rattle.dash_stage.proofs.Controller.ControlTurns.{with_poster, called_alone}
 use Rattle.dash_stage.proofs.control.Controller.quit_now.Goals as goal
 
 pub index-requires : goal.index-requires

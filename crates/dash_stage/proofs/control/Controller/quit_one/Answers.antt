@@ -1,8 +1,7 @@
 use Rattle.std.proofs.Common.{true}
 use Rattle.dash_stage.proofs.Controller.Controlling.{in_queues, in_posters, own_poster, in_pool}
-use Rattle.dash_threads.proofs.ThreadSteps.{on_ok}
-use Rattle.dash_stage.proofs.Controller.ControlTurns.{turned_quit}
-use Rattle.dash_stage.proofs.Controller.ControlWhole.{turns_quit, turns_here, called_alone}
+use Rattle.dash_threads.proofs.ThreadRuns.{on_ok}
+use Rattle.dash_stage.proofs.Controller.ControlTurns.{turned_quit, turns_quit, turns_here, called_alone}
 use Rattle.dash_stage.proofs.control.Controller.quit_one.Goals as goal
 
 pub index-requires : goal.index-requires

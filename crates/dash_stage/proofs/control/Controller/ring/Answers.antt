@@ -1,9 +1,8 @@
 use Rattle.std.proofs.Common.{◌≡◌, ◌+◌}
 use Rattle.looper_run.specs.Holding.{Sender}
 use Rattle.dash_hall.specs.Growth.{own}
-use Rattle.dash_stage.proofs.Controller.Controlling.{in_queues, in_posters, has_poster, own_poster}
-use Rattle.dash_stage.proofs.Controller.ControlWhole.{turns_elsewhere}
-use Rattle.dash_stage.proofs.Controller.GivingUp.{stands_there, after_bell, none_by_bell}
+use Rattle.dash_stage.proofs.Controller.Controlling.{in_queues, in_posters, has_poster, own_poster, stands_there, after_bell, none_by_bell}
+use Rattle.dash_stage.proofs.Controller.ControlTurns.{turns_elsewhere}
 use Rattle.dash_stage.proofs.control.Controller.ring.Goals as goal
 
 pub index-requires : goal.index-requires

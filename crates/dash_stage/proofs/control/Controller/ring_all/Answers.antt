@@ -1,5 +1,5 @@
 use Rattle.std.proofs.Common.{refl, arith}
-use Rattle.dash_stage.proofs.Controller.GivingUp.{rung_more, rest_less}
+use Rattle.dash_stage.proofs.Controller.Controlling.{rung_more, rest_less}
 use Rattle.dash_stage.proofs.control.Controller.ring_all.Goals as goal
 
 pub loop-looper-init : goal.loop-looper-init

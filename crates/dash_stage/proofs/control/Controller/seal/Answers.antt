@@ -5,7 +5,7 @@ use Rattle.looper_run.specs.Holding.{Sender}
 use Rattle.dash_hall.specs.Growth.{own}
 use Rattle.dash_stage.specs.Controllers.{CallsNone}
 use Rattle.dash_stage.specs.Timeliness.{IsNoEntry, TurnsOn}
-use Rattle.dash_stage.proofs.Controller.ControlKept.{none_after}
+use Rattle.dash_stage.proofs.Controller.Controls.{none_after}
 use Rattle.dash_stage.proofs.Controller.Controlling.{poster_count}
 use Rattle.dash_stage.proofs.Stages.StageTurns.{turns_none, turns_more}
 use Rattle.dash_stage.proofs.control.Controller.seal.Goals as goal

@@ -1,8 +1,7 @@
 use Rattle.std.proofs.Common.{refl, ap, ◌∙◌}
 use Rattle.choreographer.specs.declared.view.Constants.{Constants}
 use Rattle.dash_hall.proofs.Badges.{choreographer_at}
-use Rattle.dash_stage.proofs.Controller.Controlling.{in_choreographers, in_passes, own_pass}
-use Rattle.dash_stage.proofs.Controller.FrameSealing.{in_frame_lists, last_pass, frames_controller}
+use Rattle.dash_stage.proofs.Controller.Controlling.{in_choreographers, in_passes, own_pass, in_frame_lists, last_pass, frames_controller}
 use Rattle.dash_stage.proofs.control.Controller.seal_frames.Goals as goal
 
 pub index-requires : goal.index-requires

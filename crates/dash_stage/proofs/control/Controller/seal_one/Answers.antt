@@ -1,5 +1,5 @@
 use Rattle.dash_stage.proofs.Controller.Controlling.{in_queues, in_posters, own_poster, is_last}
-use Rattle.dash_stage.proofs.Controller.Sealing.{in_lists, hands_alone, hands_none, hands_here}
+use Rattle.dash_stage.proofs.Controller.ControlTurns.{in_lists, hands_alone, hands_none, hands_here}
 use Rattle.dash_stage.proofs.control.Controller.seal_one.Goals as goal
 
 pub index-requires : goal.index-requires

@@ -1,7 +1,6 @@
 use Rattle.std.proofs.Common.{refl, ◌∙◌}
 use Rattle.dash_stage.proofs.Controller.Controlling.{in_queues, in_posters, own_poster}
-use Rattle.dash_stage.proofs.Controller.ControlTurns.{turned_none, turned_time}
-use Rattle.dash_stage.proofs.Controller.ControlWhole.{turns_none, turns_here, turned_alone}
+use Rattle.dash_stage.proofs.Controller.ControlTurns.{turned_none, turned_time, turns_none, turns_here, turned_alone}
 use Rattle.dash_stage.proofs.control.Controller.time_on.Goals as goal
 
 pub index_mut-requires : goal.index_mut-requires

@@ -2,11 +2,11 @@ use Rattle.std.proofs.Common.{◌≡◌, max, List, refl, ◌∙◌, arith}
 use Rattle.dash_script.specs.declared.script.Block.{Block}
 use Rattle.dash_stage.specs.Steps.{IsReadyFor}
 use Rattle.dash_stage.specs.Timeliness.{AreBy}
-use Rattle.dash_stage.proofs.Controller.ControlKept.{moving_kept, reached_kept, by_kept}
-use Rattle.dash_stage.proofs.Moves.StageMoves.{by_later}
+use Rattle.dash_stage.proofs.Controller.Controls.{moving_kept, reached_kept, by_kept}
+use Rattle.dash_stage.proofs.Stages.StageWhole.{by_later}
 use Rattle.dash_stage.proofs.Played.PlayedTurns.{advanced_sound}
-use Rattle.dash_stage.proofs.Sharing.StageShares.{calls_none}
-use Rattle.dash_stage.proofs.Stepping.{advanced_by, advanced_at, advanced_begins}
+use Rattle.dash_stage.proofs.Sharing.{calls_none}
+use Rattle.dash_stage.proofs.Moves.{advanced_by, advanced_at, advanced_begins}
 use Rattle.dash_stage.proofs.stage.Stage.advance.Goals as goal
 
 pub advance-requires : goal.advance-requires

@@ -9,8 +9,7 @@ use Rattle.dash_stage.specs.ByClock.{HaveLooped}
 use Rattle.dash_stage.specs.Playing.{EachStandsBetweenLoops}
 use Rattle.dash_stage.specs.Sharing.{OfLoopers}
 use Rattle.dash_stage.specs.Stages.{AreLoopers, OthersHaveEnded, LoopersGoOn}
-use Rattle.dash_stage.proofs.ByClock.ClockEnds.{loopers_ran, loopers_clocked, loopers_played, closing_heard}
-use Rattle.dash_stage.proofs.ByClock.Looping.{looped_on, all_grew}
+use Rattle.dash_stage.proofs.ByClock.{loopers_ran, loopers_clocked, loopers_played, closing_heard, looped_on, all_grew}
 use Rattle.dash_stage.proofs.stage.Stage.drain.Goals as goal
 use Rattle.dash_loopers.specs.Looped.{HasLooped}
 

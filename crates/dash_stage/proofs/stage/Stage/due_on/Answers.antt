@@ -4,8 +4,8 @@ use Rattle.looper_run.specs.Round.{is_ended}
 use Rattle.dash_loopers.specs.declared.looper.StageLooper.{StageLooper}
 use Rattle.dash_loopers.specs.Loopers.{until_of}
 use Rattle.dash_stage.specs.Timeliness.{NotLater}
-use Rattle.dash_stage.proofs.Controller.ControlKept.{none_same}
-use Rattle.dash_stage.proofs.Stepping.{looked_self}
+use Rattle.dash_stage.proofs.Controller.Controls.{none_same}
+use Rattle.dash_stage.proofs.Moves.{looked_self}
 use Rattle.dash_stage.proofs.stage.Stage.due_on.Goals as goal
 
 pub asked-requires : goal.asked-requires

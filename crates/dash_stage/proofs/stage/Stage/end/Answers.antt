@@ -2,13 +2,11 @@ use Rattle.std.proofs.Common.{◌≡◌, ◌∙◌, inr, sym, refl, length}
 use Rattle.dash_hall.specs.Hearing.{HaveHeard}
 use Rattle.dash_stage.specs.declared.stage.Stage.{Stage}
 use Rattle.dash_stage.specs.Timeliness.{IsHaltEntry, whole_on}
-use Rattle.dash_stage.proofs.Controller.ControlKept.{closing_kept, closed_kept}
-use Rattle.dash_stage.proofs.Sharing.StageShares.{calls_none, ended_kept}
-use Rattle.dash_stage.proofs.Sharing.Turns.{awaited_ended}
-use Rattle.dash_stage.proofs.Stages.StageQuits.{halt_moves_not, halt_in_time}
-use Rattle.dash_stage.proofs.Stages.StageTurns.{halted_stays, go_on_kept}
-use Rattle.dash_stage.proofs.Stages.Turned.{turned_by}
-use Rattle.dash_stage.proofs.Stepping.{turned_at}
+use Rattle.dash_stage.proofs.Controller.Controls.{closing_kept, closed_kept}
+use Rattle.dash_stage.proofs.Sharing.{calls_none, ended_kept, awaited_ended}
+use Rattle.dash_stage.proofs.Stages.StageTurns.{halt_moves_not, halt_in_time, halted_stays, go_on_kept}
+use Rattle.dash_stage.proofs.Stages.StageWhole.{turned_by}
+use Rattle.dash_stage.proofs.Moves.{turned_at}
 use Rattle.dash_stage.proofs.stage.Stage.end.Goals as goal
 
 pub loop-init : goal.loop-init

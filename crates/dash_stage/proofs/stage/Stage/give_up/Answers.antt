@@ -4,8 +4,8 @@ use Rattle.dash_loopers.specs.declared.looper.StageLooper.{StageLooper}
 use Rattle.dash_stage.specs.Controllers.{IsControllerIn}
 use Rattle.dash_stage.specs.Turns.{HaveRunRound}
 use Rattle.dash_stage.specs.declared.side.Turn.TheVariants.{Others}
-use Rattle.dash_stage.proofs.BlockTimes.Limits.{playable}
-use Rattle.dash_stage.proofs.Sharing.Turns.{others_have_turn}
+use Rattle.dash_stage.proofs.BlockTimes.{playable}
+use Rattle.dash_stage.proofs.Sharing.{others_have_turn}
 use Rattle.dash_stage.proofs.stage.Stage.give_up.Goals as goal
 
 pub give_up-quit-requires : goal.give_up-quit-requires

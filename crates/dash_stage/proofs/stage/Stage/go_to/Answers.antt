@@ -2,7 +2,7 @@ use Rattle.std.proofs.Common.{◌≡◌, ℕ, List, max, true, true≢false, sym
 use Rattle.dash_stage.specs.Controllers.{HasReached}
 use Rattle.dash_script.specs.declared.script.Block.{Block}
 use Rattle.dash_stage.specs.Steps.{RestsAt, TimeLiesAhead, BeginsBlock}
-use Rattle.dash_stage.proofs.Stepping.{way_still, before_on, ready_by}
+use Rattle.dash_stage.proofs.Moves.{way_still, before_on, ready_by}
 use Rattle.dash_stage.proofs.stage.Stage.go_to.Goals as goal
 use Rattle.dash_stage.proofs.stage.Stage.go_to.Goals.{else-moved-via-then-moved+else-next-time, else-moved-via-else-moved}
 

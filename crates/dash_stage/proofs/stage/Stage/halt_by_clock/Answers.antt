@@ -5,8 +5,7 @@ use Rattle.dash_loopers.proofs.LooperMoments.{of_shown}
 use Rattle.dash_stage.specs.declared.stage.Stage.{Stage}
 use Rattle.dash_stage.specs.RunEnds.{HasRunByClock}
 use Rattle.dash_stage.specs.Timeliness.{IsHaltEntry}
-use Rattle.dash_stage.proofs.ByClock.Behind.{behind_on, same_threads, sees_turned}
-use Rattle.dash_stage.proofs.ByClock.ClockEnds.{closing_heard, ended_heard}
+use Rattle.dash_stage.proofs.ByClock.{behind_on, same_threads, sees_turned, closing_heard, ended_heard}
 use Rattle.dash_stage.proofs.stage.Stage.halt_by_clock.Goals as goal
 
 pub halt_by_clock-halted-requires-clause-at : goal.halt_by_clock-halted-requires-clause-at

@@ -1,7 +1,7 @@
 use Rattle.std.proofs.Common.{inr, refl}
 use Rattle.dash_stage.specs.Timeliness.{IsNoEntry}
-use Rattle.dash_stage.proofs.Stages.Turned.{turned_by}
-use Rattle.dash_stage.proofs.Stepping.{still_shared, turned_at}
+use Rattle.dash_stage.proofs.Stages.StageWhole.{turned_by}
+use Rattle.dash_stage.proofs.Moves.{still_shared, turned_at}
 use Rattle.dash_stage.proofs.stage.Stage.hand_out.Goals as goal
 
 pub returns : goal.returns

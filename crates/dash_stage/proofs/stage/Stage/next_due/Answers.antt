@@ -1,8 +1,6 @@
 use Rattle.std.proofs.Common.{◌≡◌, Some, None, refl, ap, arith}
-use Rattle.dash_stage.proofs.Moves.MovesDue.{one_waits, may_come}
-use Rattle.dash_stage.proofs.Moves.PulseTimes.{one_look_more}
-use Rattle.dash_stage.proofs.Moves.StageDue.{one_waits_more, due_of_rest}
-use Rattle.dash_stage.proofs.Stepping.{looked_self, looked_then}
+use Rattle.dash_stage.proofs.Stages.StageWhole.{one_waits, may_come, one_waits_more, due_of_rest}
+use Rattle.dash_stage.proofs.Moves.{one_look_more, looked_self, looked_then}
 use Rattle.dash_stage.proofs.stage.Stage.next_due.Goals as goal
 
 pub loop-looper-init : goal.loop-looper-init

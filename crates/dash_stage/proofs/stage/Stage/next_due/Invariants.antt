@@ -3,9 +3,8 @@ use Rattle.dash_script.specs.declared.script.Script.{Script}
 use Rattle.dash_stage.specs.declared.stage.Stage.{Stage}
 use Rattle.dash_stage.specs.Steps.{OnlyLooked}
 use Rattle.dash_stage.specs.Timeliness.{NotLater}
-use Rattle.dash_stage.proofs.Moves.MovesDue.{OneWaits}
-use Rattle.dash_stage.proofs.Moves.PulseTimes.{HaveLooked}
-use Rattle.dash_stage.proofs.Moves.StageDue.{WaitAfter}
+use Rattle.dash_stage.proofs.Stages.StageWhole.{OneWaits, WaitAfter}
+use Rattle.dash_stage.proofs.Moves.{HaveLooked}
 use Rattle.dash_stage.proofs.stage.Stage.next_due.Given as goal
 
 -- this is the least time of the first loopers

@@ -5,13 +5,12 @@ use Rattle.dash_script.specs.declared.script.Block.{Block}
 use Rattle.run_model.specs.FrameRecords.{in_block}
 use Rattle.dash_stage.specs.declared.stage.Stage.{Stage}
 use Rattle.dash_stage.specs.Steps.{StageAt, RestsAt, TimeLiesAhead, IsAtNext}
-use Rattle.dash_stage.proofs.BlockTimes.Blocks.{blocks_next, blocks_past}
-use Rattle.dash_stage.proofs.BlockTimes.Limits.{before_end, before_next}
-use Rattle.dash_stage.proofs.Controller.ControlKept.{reached_kept}
-use Rattle.dash_stage.proofs.Moves.MovesDue.{block_is_planned, end_is_planned}
+use Rattle.dash_stage.proofs.BlockTimes.{blocks_next, blocks_past, before_end, before_next}
+use Rattle.dash_stage.proofs.Controller.Controls.{reached_kept}
+use Rattle.dash_stage.proofs.Stages.StageWhole.{block_is_planned, end_is_planned}
 use Rattle.dash_stage.proofs.Played.InTurn.{turn_later, rounds_before}
 use Rattle.dash_stage.proofs.Played.PlayedTurns.{ahead_of_zero}
-use Rattle.dash_stage.proofs.Stepping.{still_then, way_still}
+use Rattle.dash_stage.proofs.Moves.{still_then, way_still}
 use Rattle.dash_stage.proofs.stage.Stage.play.Goals as goal
 
 pub loop-block-init : goal.loop-block-init

@@ -6,13 +6,11 @@ use Rattle.dash_stage.specs.declared.control.Controller.{Controller}
 use Rattle.dash_stage.specs.declared.stage.Stage.{Stage}
 use Rattle.dash_stage.specs.Timeliness.{MovesNot}
 use Rattle.dash_stage.proofs.Controller.Controlling.{poster_count}
-use Rattle.dash_stage.proofs.Controller.ControlKept.{quitting_starts, quitting_skips, closing_kept}
-use Rattle.dash_stage.proofs.Controller.StageControls.{quitting_ends}
-use Rattle.dash_stage.proofs.Sharing.StageShares.{calls_none}
-use Rattle.dash_stage.proofs.Stages.StageTurns.{turns_none, turns_more}
-use Rattle.dash_stage.proofs.Stages.StageQuits.{kept_where_ended, quit_in_time}
-use Rattle.dash_stage.proofs.Stages.Turned.{turned_by}
-use Rattle.dash_stage.proofs.Stepping.{turned_at}
+use Rattle.dash_stage.proofs.Controller.Controls.{quitting_starts, quitting_skips, closing_kept, quitting_ends}
+use Rattle.dash_stage.proofs.Sharing.{calls_none}
+use Rattle.dash_stage.proofs.Stages.StageTurns.{turns_none, turns_more, kept_where_ended, quit_in_time}
+use Rattle.dash_stage.proofs.Stages.StageWhole.{turned_by}
+use Rattle.dash_stage.proofs.Moves.{turned_at}
 use Rattle.dash_stage.proofs.stage.Stage.quit_others.Invariants.{HasQuit}
 use Rattle.dash_stage.proofs.stage.Stage.quit_others.Goals as goal
 use Rattle.dash_stage.proofs.stage.Stage.quit_others.Goals.{then-not-has_ended+in_ok-quit, else-not-has_ended}

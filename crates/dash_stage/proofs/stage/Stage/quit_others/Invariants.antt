@@ -4,8 +4,7 @@ use Rattle.dash_stage.specs.declared.stage.Stage.{Stage}
 use Rattle.dash_stage.specs.Controllers.{IsQuitting}
 use Rattle.dash_stage.specs.Stages.{IsStage}
 use Rattle.dash_stage.specs.Timeliness.{EachTurnsOn, MovesNot}
-use Rattle.dash_stage.proofs.Stages.StageTurns.{AreKeptFrom}
-use Rattle.dash_stage.proofs.Stages.StageQuits.{AreKeptWhereEnded}
+use Rattle.dash_stage.proofs.Stages.StageTurns.{AreKeptFrom, AreKeptWhereEnded}
 use Rattle.dash_stage.proofs.stage.Stage.quit_others.Given as goal
 
 -- the loopers below this one, but main, were quit where they haven't ended

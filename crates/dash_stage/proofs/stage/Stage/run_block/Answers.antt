@@ -2,7 +2,7 @@ use Rattle.std.proofs.Common.{◌∙◌, List, refl, sym, subst, arith}
 use Rattle.std.proofs.lemmas.List.{with_items_is}
 use Rattle.dash_threads.specs.declared.thread.PostingThread.{PostingThread}
 use Rattle.dash_stage.specs.Stages.{EachRunsBlock}
-use Rattle.dash_stage.proofs.Stepping.{still_self, still_shared, block_next}
+use Rattle.dash_stage.proofs.Moves.{still_self, still_shared, block_next}
 use Rattle.dash_stage.proofs.stage.Stage.run_block.Goals as goal
 
 pub returns : goal.returns

@@ -13,8 +13,7 @@ use Rattle.dash_stage.specs.BehindThreads.{CallsBehindThreads}
 use Rattle.dash_stage.specs.Playing.{EachStandsBetweenLoops}
 use Rattle.dash_stage.specs.Sharing.{OfThreads, OfLoopers}
 use Rattle.dash_stage.specs.Stages.{AreThreads, AreLoopers, HaveRunBy, GoOn, OthersHaveEnded, LoopersGoOn}
-use Rattle.dash_stage.proofs.ByClock.ClockEnds.{threads_ran_all, threads_clocked, loopers_ran, loopers_clocked, loopers_played, begins_played, closing_heard}
-use Rattle.dash_stage.proofs.ByClock.Looping.{looped_first}
+use Rattle.dash_stage.proofs.ByClock.{threads_ran_all, threads_clocked, loopers_ran, loopers_clocked, loopers_played, begins_played, closing_heard, looped_first}
 use Rattle.dash_stage.proofs.stage.Stage.run_by_clock.Goals as goal
 use Rattle.dash_loopers.specs.Looped.{HasLooped}
 

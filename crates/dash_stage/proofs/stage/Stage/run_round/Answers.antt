@@ -2,7 +2,7 @@ use Rattle.std.proofs.Common.{List, refl, subst, arith}
 use Rattle.std.proofs.lemmas.List.{with_items_is}
 use Rattle.dash_loopers.specs.declared.looper.StageLooper.{StageLooper}
 use Rattle.dash_stage.specs.Turns.{HaveRunRound}
-use Rattle.dash_stage.proofs.Stepping.{still_self, still_shared, round_at, round_turns, round_rests}
+use Rattle.dash_stage.proofs.Moves.{still_self, still_shared, round_at, round_turns, round_rests}
 use Rattle.dash_stage.proofs.stage.Stage.run_round.Goals as goal
 
 pub returns : goal.returns

@@ -1,8 +1,8 @@
 use Rattle.std.proofs.Common.{sym, ◌∙◌}
 use Rattle.dash_hall.specs.Hearing.{seen_by}
-use Rattle.dash_stage.proofs.Moves.StageDue.{grown_none}
-use Rattle.dash_stage.proofs.Sharing.Turns.{awaited_self, awaited_then}
-use Rattle.dash_stage.proofs.Stepping.{still_self, still_then, stays_self, stays_then}
+use Rattle.dash_stage.proofs.Stages.StageWhole.{grown_none}
+use Rattle.dash_stage.proofs.Sharing.{awaited_self, awaited_then}
+use Rattle.dash_stage.proofs.Moves.{still_self, still_then, stays_self, stays_then}
 use Rattle.dash_stage.proofs.stage.Stage.run_rounds.Goals as goal
 
 pub loop-init : goal.loop-init

@@ -1,5 +1,5 @@
 use Rattle.std.proofs.Common.{refl}
-use Rattle.dash_stage.proofs.Stepping.{still_then, stays_then}
+use Rattle.dash_stage.proofs.Moves.{still_then, stays_then}
 use Rattle.dash_stage.proofs.stage.Stage.settle.Goals as goal
 
 pub returns-in_err-hand_out-clause-still : goal.returns-in_err-hand_out-clause-still

@@ -1,6 +1,5 @@
 use Rattle.std.proofs.Common.{true}
-use Rattle.dash_stage.proofs.Sharing.StageShares.{stage_in_its_mode, stage_kept, stage_then, kept_heard}
-use Rattle.dash_stage.proofs.Sharing.FrameShares.{same_kept}
+use Rattle.dash_stage.proofs.Sharing.{stage_in_its_mode, stage_kept, stage_then, kept_heard, same_kept}
 use Rattle.dash_stage.proofs.stage.Stage.share.Goals as goal
 
 pub share_each-requires : goal.share_each-requires

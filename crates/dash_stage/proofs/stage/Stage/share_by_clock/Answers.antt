@@ -1,5 +1,5 @@
 use Rattle.std.proofs.Common.{false}
-use Rattle.dash_stage.proofs.Sharing.StageShares.{stage_in_its_mode}
+use Rattle.dash_stage.proofs.Sharing.{stage_in_its_mode}
 use Rattle.dash_stage.proofs.stage.Stage.share_by_clock.Goals as goal
 
 pub share_each-requires : goal.share_each-requires

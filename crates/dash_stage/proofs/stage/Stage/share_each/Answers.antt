@@ -1,5 +1,5 @@
 use Rattle.std.proofs.Common.{arith}
-use Rattle.dash_stage.proofs.Sharing.StageShares.{stage_in_its_mode, stage_self, stage_weaker, stage_then, stage_kept, share_none, share_more, share_all}
+use Rattle.dash_stage.proofs.Sharing.{stage_in_its_mode, stage_self, stage_weaker, stage_then, stage_kept, share_none, share_more, share_all}
 use Rattle.dash_stage.proofs.stage.Stage.share_each.Goals as goal
 
 pub share_queue-requires-clause-stage : goal.share_queue-requires-clause-stage

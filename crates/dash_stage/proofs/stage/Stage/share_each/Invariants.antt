@@ -1,7 +1,7 @@
 use Rattle.dash_stage.specs.Stages.{IsStageIn}
 use Rattle.dash_hall.specs.Hearing.{HaveHeard}
 use Rattle.dash_stage.specs.Sharing.{StageKeeps}
-use Rattle.dash_stage.proofs.Sharing.StageShares.{ShareFirst}
+use Rattle.dash_stage.proofs.Sharing.{ShareFirst}
 use Rattle.dash_stage.proofs.stage.Stage.share_each.Given as goal
 
 abbrev pub invariant-loop-looper : goal.invariant-loop-looper

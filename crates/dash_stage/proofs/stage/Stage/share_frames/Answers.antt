@@ -1,6 +1,5 @@
 use Rattle.std.proofs.Common.{arith}
-use Rattle.dash_stage.proofs.Sharing.StageShares.{stage_in_its_mode, stage_kept, kept_self, kept_heard, kept_then}
-use Rattle.dash_stage.proofs.Sharing.FrameShares.{heard_none, heard_more}
+use Rattle.dash_stage.proofs.Sharing.{stage_in_its_mode, stage_kept, kept_self, kept_heard, kept_then, heard_none, heard_more}
 use Rattle.dash_stage.proofs.stage.Stage.share_frames.Goals as goal
 
 pub share_frames_of-requires-clause-stage : goal.share_frames_of-requires-clause-stage

@@ -1,7 +1,7 @@
 use Rattle.dash_hall.specs.Hearing.{AreKept}
 use Rattle.dash_stage.specs.Stages.{IsStageIn}
 use Rattle.dash_stage.specs.Sharing.{StageKeeps}
-use Rattle.dash_stage.proofs.Sharing.FrameShares.{HaveHeardFirst}
+use Rattle.dash_stage.proofs.Sharing.{HaveHeardFirst}
 use Rattle.dash_stage.proofs.stage.Stage.share_frames.Given as goal
 
 abbrev pub invariant-loop-looper : goal.invariant-loop-looper

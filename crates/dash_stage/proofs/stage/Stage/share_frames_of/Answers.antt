@@ -8,7 +8,7 @@ use Rattle.dash_loopers.specs.declared.looper.StageLooper.{StageLooper}
 use Rattle.dash_loopers.specs.Loopers.{IsLooper}
 use Rattle.dash_stage.specs.Sharing.{OfPasses}
 use Rattle.dash_stage.proofs.Controller.Controlling.{turns_on, in_choreographers, in_passes, own_pass, pass_count}
-use Rattle.dash_stage.proofs.Sharing.FrameShares.{passes_ready, looper_passes, shares_frames}
+use Rattle.dash_stage.proofs.Sharing.{passes_ready, looper_passes, shares_frames}
 use Rattle.dash_stage.proofs.stage.Stage.share_frames_of.Goals as goal
 
 pub index-requires : goal.index-requires

@@ -9,7 +9,7 @@ use Rattle.dash_loopers.specs.Loopers.{LooperKeeps}
 use Rattle.dash_hall.proofs.PassesHearing.{passes_heard_self}
 use Rattle.dash_stage.proofs.Controller.Controlling.{turns_on, in_queues, in_posters}
 use Rattle.dash_hall.proofs.Hearing.{ready_is, heard_at}
-use Rattle.dash_stage.proofs.Sharing.StageShares.{threads_ready, loopers_ready, controller_ready, are_within}
+use Rattle.dash_stage.proofs.Sharing.{threads_ready, loopers_ready, controller_ready, are_within}
 use Rattle.dash_stage.proofs.stage.Stage.share_queue.Goals as goal
 
 pub index-requires : goal.index-requires

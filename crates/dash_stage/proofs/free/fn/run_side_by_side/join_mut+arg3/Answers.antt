@@ -1,5 +1,4 @@
-use Rattle.dash_stage.proofs.ByClock.Behind.{behind_on, same_threads, rung_heard}
-use Rattle.dash_stage.proofs.ByClock.ClockEnds.{quits_heard, can_quit}
+use Rattle.dash_stage.proofs.ByClock.{behind_on, same_threads, rung_heard, quits_heard, can_quit}
 use Rattle.dash_stage.proofs.free.fn.run_side_by_side.join_mut+arg3.Goals as goal
 
 pub quit_others-requires : goal.quit_others-requires
