@@ -26,7 +26,7 @@ pub record KeepsWait (x y : StampedFrames) : Type 0 where
   pub asked : (key : Constants) → AsksIfScheduled key x → (n : ℕ) → key.pulses ≡ Some n → asked_of x ≢ 0 → asked_of y ≡ asked_of x
 
 -- a frame is to begin where it is scheduled and nothing is asked for
-to_begin : (scheduled : Bool) (asked : Option ℕ) → cond {A = ℕ} (scheduled && is_none asked) 1 0 ≡ 1 → (scheduled ≡ true) × (asked ≡ None)
+pub to_begin : (scheduled : Bool) (asked : Option ℕ) → cond {A = ℕ} (scheduled && is_none asked) 1 0 ≡ 1 → (scheduled ≡ true) × (asked ≡ None)
 to_begin true None is = (refl, refl)
 to_begin true (Some p) is = absurd (omega (arith, is))
 to_begin false asked is = absurd (omega (arith, is))

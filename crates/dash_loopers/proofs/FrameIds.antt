@@ -1,7 +1,7 @@
 -- Which callbacks a frame runs, and at which moments, in the frame record and as its client tells them.
 use Rattle.std.proofs.Common.{◌≡◌, ◌+◌, ◌/◌, ◌<◌, ◌≤◌, ℕ, Bool, true, false, List, [], ◌∷◌, ◌++◌, length, take, drop, reverse, Option, Some, None, refl, sym, ap, ◌∙◌, subst, arith, append_assoc, eq-eqb}
 use Rattle.std.specs.Prelude.{◌==◌, cond, map, slice_get, nat_le}
-use Rattle.std.specs.List.{filter_map, cons_option, before_first, list_all, AllByRecursion}
+use Rattle.std.specs.List.{filter_map, cons_option, before_first, list_all, list_any, AllByRecursion}
 use Rattle.std.specs.Option.{option_map_or}
 use Rattle.std.proofs.lemmas.List.{append-nil, map-append, reverse-append, reverse-reverse, length-reverse, length-append, length-map}
 use Rattle.std.proofs.lemmas.List.Elements.{filter_map-append}
@@ -19,7 +19,7 @@ use Rattle.frame_phases.specs.State.{Frames, past as past_of}
 use Rattle.choreographer.specs.declared.state.StampedFrames.{StampedFrames}
 use Rattle.choreographer.specs.declared.frame.Framed.{Framed}
 use Rattle.choreographer.specs.declared.frame.Framed.TheVariants.{Done, Elsewhere, Unscheduled, Backwards, NoMemory}
-use Rattle.choreographer.specs.Known.{Pass, IsFrameTurn}
+use Rattle.choreographer.specs.Known.{Pass, IsFrameTurn, SeesQuietly}
 use Rattle.choreographer.specs.Client.{Run}
 use Rattle.choreographer.specs.Frame.{Batch, begin_place, ran_since, batches_since}
 use Rattle.choreographer.specs.Done.{runs, runs_of, batch_numbers, AreBatches, AddsFrame, FramedBy, RecordsBy, EndsWait, UnlessNoMemory}
@@ -29,7 +29,8 @@ use Rattle.run_model.specs.FrameRecords.{frame_ids, is_frame_from, begins_with, 
 use Rattle.run_model.specs.FrameRecords.{asked_in, asks_in}
 use Rattle.run_model.proofs.FrameKeeping.{all-reverse, all-in_due_order, posted_in, posted-reverse, before_first-step, told_before, KeepsFrames-lawful}
 use Rattle.dash_hall.specs.Hosts.{pass_asks}
-use Rattle.choreographer.proofs.InTime.{frame_up_to, never_back}
+use Rattle.choreographer.proofs.InTime.{frame_up_to, never_back, turn_quiet}
+use Rattle.dash_loopers.proofs.WantedPulses.{last_quietly, none_behind}
 use Rattle.dash_loopers.specs.Played.{RanFrame, RunsInTime, HasLatest, ids_of}
 use Rattle.dash_loopers.proofs.LooperLists.{at_seam}
 use Rattle.dash_loopers.specs.Places.{HasEndedWait}
@@ -253,9 +254,9 @@ added_at xs ys zs more e place is long whole =
 pub turn_grew : (f g : Pass) (x y : StampedFrames) → IsFrameTurn f g x y → IsPrefix f.view.seen g.view.seen
 turn_grew f g x y t = prefix_trans f.view.seen x.frames.entries g.view.seen t.begins.0 (subst (IsPrefix x.frames.entries) (sym t.seen) t.grows)
 
-pub no_frame : (interval phases : ℕ) (is_moment : ℕ → Bool) (before after : Pass) (told : List Run) → told ≡ [] → IsPrefix before.view.seen after.view.seen → after.view.own ≡ before.view.own → RunsInTime is_moment before after None
+pub no_frame : (interval phases : ℕ) (is_moment : ℕ → Bool) (before after : Pass) (told : List Run) → told ≡ [] → IsPrefix before.view.seen after.view.seen → after.view.own ≡ before.view.own → RunsInTime is_moment before after None → SeesQuietly before after
     → RanFrame interval phases is_moment before after (ids_of told)
-no_frame interval phases is_moment before after told none grew own in_time = record {
+no_frame interval phases is_moment before after told none grew own in_time quiet = record {
   frame = None;
   start = 0;
   framed = λ fs begins is. (refl, ap ids_of (sym none), refl, refl);
@@ -265,6 +266,7 @@ no_frame interval phases is_moment before after told none grew own in_time = rec
   asks = ap asks_in own ∙ sym (append-nil (pass_asks before));
   stamped = λ stamp waits has fs begins. refl;
   in_time = in_time;
+  last = λ c e named first le none. last_quietly first before.view.seen after.view.seen (quiet c e named) le none;
 }
 
 -- a frame that was run was asked for by its start
@@ -321,16 +323,20 @@ framed_ran interval phases is_moment before after told Done some (start, time, m
             (start, time, middle, moment, turn, (batches, told_is, long, are, (y, left, numbers, batches_are, at, near, none, settled, seen_is), turns, grew, each)) has.key has.constants has.alone up_to,
         λ waiting over. refl,
       );
+      last = λ c e named first le none. subst (λ (l : List FrameEntry). list_any is_begin (drop (place + 1) l) ≡ false) (reverse-reverse y.frames.entries ∙ seen_is) (none_behind (past_of y.frames));
     }
 framed_ran interval phases is_moment before after told (Elsewhere next) some (start, moment, turn, told_is) own ends =
     no_frame interval phases is_moment before after told (let same : told ≡ [] = cc (told_is) in same) (turn_grew before after turn.0 turn.1 turn.2) own
     (λ t stamp waits only has up_to. (frame_up_to t is_moment only phases before after (Some []) (Some told) (Elsewhere next) (start, moment, turn, told_is) has.key has.constants has.alone up_to, λ waiting over. none_ended before after stamp waits has over waiting (ends has.key has.constants has.alone)))
+    (turn_quiet before after turn.0 turn.1 turn.2 (ap (λ (f : Frames). f.entries) turn.3.1))
 framed_ran interval phases is_moment before after told Unscheduled some (start, moment, turn, told_is) own ends =
     no_frame interval phases is_moment before after told (let same : told ≡ [] = cc (told_is) in same) (turn_grew before after turn.0 turn.1 turn.2) own
     (λ t stamp waits only has up_to. (frame_up_to t is_moment only phases before after (Some []) (Some told) Unscheduled (start, moment, turn, told_is) has.key has.constants has.alone up_to, λ waiting over. absurd (ends has.key has.constants has.alone)))
+    (turn_quiet before after turn.0 turn.1 turn.2 (ap (λ (f : Frames). f.entries) turn.3.2))
 framed_ran interval phases is_moment before after told (Backwards last) some (start, moment, turn, told_is, later) own ends =
     no_frame interval phases is_moment before after told (let same : told ≡ [] = cc (told_is) in same) (turn_grew before after turn.0 turn.1 turn.2) own
     (λ t stamp waits only has up_to. (frame_up_to t is_moment only phases before after (Some []) (Some told) (Backwards last) (start, moment, turn, told_is, later) has.key has.constants has.alone up_to, λ waiting over. absurd (never_back t is_moment only phases last before after (Some []) (Some told) (start, moment, turn, told_is, later) has.key has.constants has.alone up_to)))
+    (turn_quiet before after turn.0 turn.1 turn.2 (ap (λ (f : Frames). f.entries) turn.3.4))
 framed_ran interval phases is_moment before after told NoMemory some t records ends = tt
 
 -- what holds where memory didn't run out

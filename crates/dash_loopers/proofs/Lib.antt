@@ -33,6 +33,7 @@ pub mod LooperLooped
 pub mod LooperRounds
 pub mod LatestPulses
 pub mod PulsesOnTime
+pub mod WantedPulses
 pub mod LooperLeaves
 pub mod LooperShares
 pub mod OwnLooks

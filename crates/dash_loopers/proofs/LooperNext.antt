@@ -27,6 +27,8 @@ use Rattle.dash_loopers.specs.Looped.{GoesOnFrom, StaysTold, LooksForPulse, HasL
 use Rattle.dash_loopers.proofs.FrameIds.{turn_grew}
 use Rattle.dash_loopers.proofs.LatestPulses.{turn_keeps_latest, turn_may_await}
 use Rattle.dash_loopers.proofs.LooperLoops.{plays_then}
+use Rattle.choreographer.proofs.InTime.{turn_quiet}
+use Rattle.dash_loopers.proofs.WantedPulses.{last_quietly}
 use Rattle.dash_loopers.proofs.LooperKits.{parts_of, others_many, looper_of, looper_with}
 
 -- it is the looper still
@@ -51,6 +53,7 @@ played_asked s l parts g r e asked = λ going text did a come. record {
       record {
         led = λ fs begins law. st.led fs (prefix_trans parts.frames.view.seen g.view.seen fs grew begins) law;
         place = (let le = st.place in let longer = prefix_length parts.frames.view.seen g.view.seen grew in omega (arith, le, longer));
+        last = last_quietly a.place parts.frames.view.seen g.view.seen (turn_quiet parts.frames g asked.0 asked.0 asked.1 refl st.latest_is.key st.latest_is.constants st.latest_is.alone) st.place st.last;
         moments = λ is fs begins law. st.moments is fs (prefix_trans parts.frames.view.seen g.view.seen fs grew begins) law;
         whole = λ fs begins law. st.whole fs (prefix_trans parts.frames.view.seen g.view.seen fs grew begins) law;
         ran = ap (λ l. map (as_told false) (asks_in l)) (asked_records parts.frames g r asked) ∙ st.ran;

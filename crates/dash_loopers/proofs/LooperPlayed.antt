@@ -1,7 +1,7 @@
 -- Where a looper stands as it begins, as a round of it begins and ends, and at its end.
 use Rattle.std.proofs.Common.{◌≡◌, ℕ, ◌<◌, ◌≤◌, ◌⊎◌, inl, inr, true, false, List, [], ◌∷◌, ◌+◌, map, length, get_or, replicate, Option, Some, None, refl, sym, ap, ◌∙◌, subst, arith, eq-eqb}
 use Rattle.std.specs.Prelude.{slice_index_or}
-use Rattle.std.specs.List.{insert, remove, filter_map}
+use Rattle.std.specs.List.{insert, remove, filter_map, list_any}
 use Rattle.loop_model.specs.Base.{empty_base}
 use Rattle.loop_model.specs.Answers.{clock}
 use Rattle.choreographer.specs.Turn.{has_later}
@@ -28,7 +28,7 @@ use Rattle.dash_hall.specs.declared.kit.Kit.{Kit}
 use Rattle.dash_hall.specs.Kits.{IsHall, AreUnseen}
 use Rattle.dash_hall.specs.Growth.{own}
 use Rattle.dash_hall.specs.Hosts.{pass_asks}
-use Rattle.run_model.specs.FrameRecords.{asks_in, as_told, nanos_of}
+use Rattle.run_model.specs.FrameRecords.{asks_in, as_told, is_begin, nanos_of}
 use Rattle.dash_hall.proofs.FramePosts.{told_whole}
 use Rattle.dash_loopers.specs.declared.player.Parts.{Parts}
 use Rattle.dash_loopers.specs.declared.looper.StageLooper.{StageLooper}
@@ -56,6 +56,7 @@ pub stands_first : (s : Script) (q k : ℕ) (seen : List Entry) (acts : List Act
 stands_first s q k seen acts parts none still gauges lines barrier painted edition unseen fired unasked untaken unrun unpulsed unawaited unseen_frames = record {
   led = λ fs begins law. subst (λ (xs : List Act). ActsLead s q seen fs (first_looper s) xs (first_looper s)) (sym still) refl;
   place = omega arith;
+  last = ap (list_any is_begin) unseen_frames;
   moments = λ is fs begins law. refl;
   whole = λ fs begins law. refl;
   ran = ap (λ l. map (as_told true) (asks_in l)) unrun;
@@ -91,6 +92,7 @@ pub stands_free : (s : Script) (q k : ℕ) (es : List Entry) (acts : List Act) (
 stands_free s q k es acts parts a st = record {
   led = st.led;
   place = st.place;
+  last = st.last;
   moments = λ is. absurd (let wrong : false ≡ true = is in cc);
   whole = st.whole;
   ran = ap (map (as_told false)) (sym (told_whole (pass_asks parts.frames)) ∙ (st.ran ∙ told_whole (asks_to_run a.frames)));

@@ -129,7 +129,7 @@ module _ (s : Script) (q now : ℕ) (began : StageLooper) where
   pub delivers_none : (time : ℕ) (is_moment : ℕ → Bool) (m : PostData) (id : ℕ) (made : List Entry) (parts : Parts) (acts : List Act) → m.callback ≡ Some id → Delivers s q time is_moment m made made parts parts acts acts
   delivers_none time is_moment m id made parts acts callback = record {
     ids = [];
-    ran = record { frame = None; start = 0; started = refl; framed = λ fs begins law. (refl, refl, refl, refl); within = omega arith; grew = prefix_self parts.frames.view.seen; asks = sym (append-nil (pass_asks parts.frames)); stamped = λ stamp waits has fs begins. refl; in_time = still_in_time is_moment parts.frames parts.frames (λ stamp waits has. has) (λ c e named. grows_self parts.frames.view.seen) };
+    ran = record { frame = None; start = 0; started = refl; framed = λ fs begins law. (refl, refl, refl, refl); within = omega arith; grew = prefix_self parts.frames.view.seen; asks = sym (append-nil (pass_asks parts.frames)); stamped = λ stamp waits has fs begins. refl; in_time = still_in_time is_moment parts.frames parts.frames (λ stamp waits has. has) (λ c e named. grows_self parts.frames.view.seen); last = λ c e named first le none. none };
     starts = refl;
     awaited = refl;
     waits = waits_still q m parts parts quiet (λ stamp waits has. has) refl;

@@ -1,8 +1,8 @@
 -- Where a looper stands, as entries and acts are added: entries of others, its look that ends the queue, acts that cause
 -- nothing, a pulse, and a dispatch.
 use Rattle.std.proofs.Common.{◌≡◌, ℕ, ◌≤◌, Bool, true, false, List, [], ◌∷◌, ◌++◌, length, Option, Some, None, refl, sym, ap, ◌∙◌, subst, arith, append_assoc, eq-eqb}
-use Rattle.std.specs.Prelude.{◌==◌, ◌+◌, ◌||◌, not, is_some, is_none, map, nat_le, slice_index_or, ◌&&◌, if◌then◌else◌}
-use Rattle.std.specs.List.{AllByRecursion, filter_map, list_all}
+use Rattle.std.specs.Prelude.{◌==◌, ◌+◌, ◌||◌, not, is_some, is_none, map, nat_le, slice_index_or, drop, ◌&&◌, if◌then◌else◌}
+use Rattle.std.specs.List.{AllByRecursion, filter_map, list_all, list_any}
 use Rattle.std.proofs.lemmas.List.{length-append}
 use Rattle.std.proofs.lemmas.List.Elements.{filter_map-append}
 use Rattle.std.proofs.Math.Bool.{and-false}
@@ -27,6 +27,7 @@ use Rattle.run_model.specs.Loopers.{pulse_stamp}
 use Rattle.loop_model.specs.declared.journal.Route.{Route}
 use Rattle.frame_phases.specs.declared.entry.FrameEntry.{FrameEntry}
 use Rattle.frame_phases.specs.Frames.{is_pulse}
+use Rattle.frame_phases.specs.Wanted.{is_wanted_if_any}
 use Rattle.frame_phases.specs.Pulses.{is_pulse_if_any, comes_after, comes_after_if_any}
 use Rattle.dash_script.specs.declared.script.Script.{Script}
 use Rattle.dash_script.specs.Causes.{phase_count}
@@ -39,7 +40,7 @@ use Rattle.run_model.specs.Planned.{Makes, bare_call, token_in, AreFor, sender_c
 use Rattle.run_model.specs.AskedSoFar.{tokens_in}
 use Rattle.run_model.specs.Loopers.{LooperState, SentCall, first_looper, starts_frame, after_dispatch, and_takes, dispatched, after_act, MayDispatch, ActsLead, IsSent}
 use Rattle.run_model.specs.Parts.{and_starts, running, sent_on, is_run_then, is_whole, asks_to_run}
-use Rattle.run_model.specs.FrameRecords.{FrameAt, nanos_of, frame_ids, is_frame_from, has_stamp, place_after, frames_after, are_run_then, are_whole, FrameAsk, Runs, as_told}
+use Rattle.run_model.specs.FrameRecords.{FrameAt, is_begin, was_wanted, past_before_frame, nanos_of, frame_ids, is_frame_from, has_stamp, place_after, frames_after, are_run_then, are_whole, FrameAsk, Runs, as_told}
 use Rattle.run_model.proofs.RunLaws.{AreFor-snoc, ActsLead-snoc, ArePaints, ActsLead-paints}
 use Rattle.run_model.proofs.Growth.{ActsLead-entries, post_at-grows}
 use Rattle.choreographer.specs.Calls.{latest_stamp}
@@ -51,6 +52,7 @@ use Rattle.dash_loopers.specs.Played.{IsRootOf, calls_in, IsPlayed, moments_of, 
 use Rattle.dash_loopers.specs.Loopers.{IsSoundOn, setting_for}
 use Rattle.dash_loopers.specs.PlayingLaws.{calls_more, sound_front, clock_front, nanos_rise, runs_later, no_pulse}
 use Rattle.dash_loopers.proofs.LooperSteps.{AddsAt, delivers}
+use Rattle.dash_loopers.proofs.WantedPulses.{last_quietly, wanted_since_if_any}
 use Rattle.dash_loopers.proofs.MoreCalls.{tokens_more, sent_here, sent_else, without_self}
 
 -- ---- the calls of a sender, as entries are added
@@ -61,10 +63,10 @@ calls_taken k n now es e t =
     calls_more k es (e ∷ []) ∙ ap (λ l. calls_in k es ++ l) (let call = t.call in let reply = t.reply in rw (mine, call, reply) refl)
 
 -- a pulse that came
-vsynced : (s : Script) (q : ℕ) (es : List Entry) (fs : List FrameEntry) (acts : List Act) (a : LooperState) (stamp : ℕ) → is_pulse s.period stamp ≡ true → comes_after a.stamp stamp ≡ true → a.awaits ≡ false → a.painted ≡ [] → ActsLead s q es fs (first_looper s) acts a
+vsynced : (s : Script) (q : ℕ) (es : List Entry) (fs : List FrameEntry) (acts : List Act) (a : LooperState) (stamp : ℕ) → is_pulse s.period stamp ≡ true → comes_after a.stamp stamp ≡ true → a.awaits ≡ false → was_wanted fs a.place stamp ≡ true → a.painted ≡ [] → ActsLead s q es fs (first_looper s) acts a
     → ActsLead s q es fs (first_looper s) (acts ++ Vsync stamp ∷ []) (looper_pulsed q (Some stamp) a)
 unfolding after_act
-vsynced s q es fs acts a stamp is_one later over settled lead = ActsLead-snoc s q es fs None (first_looper s) acts a (Vsync stamp) lead (refl, record { painted = settled; awaited = over; pulse = is_one; later = later })
+vsynced s q es fs acts a stamp is_one later over wanted settled lead = ActsLead-snoc s q es fs None (first_looper s) acts a (Vsync stamp) lead (refl, record { painted = settled; awaited = over; pulse = is_one; later = later; wanted = wanted })
 
 -- ---- what stays as entries and acts are added that cause nothing
 
@@ -75,8 +77,10 @@ module _ {lockstep : Bool} (s : Script) (q k : ℕ) where
   stands_pulse now es more acts acts' parts parts' did a text p st = record {
     led = λ fs begins law.
         subst (λ l. ActsLead s q (es ++ more) fs (first_looper s) l (looper_pulsed q p.stamp a)) (sym p.told)
-        (by_stamp fs p.stamp p.next.is_pulse (p.next.later a.stamp a.awaits st.latest_is).0 (p.next.later a.stamp a.awaits st.latest_is).1 (ActsLead-entries s q es fs more (first_looper s) acts a (st.led fs (prefix_trans parts.frames.view.seen parts'.frames.view.seen fs p.grew begins) law)));
+        (by_stamp fs p.stamp p.next.is_pulse (p.next.later a.stamp a.awaits st.latest_is).0 (p.next.later a.stamp a.awaits st.latest_is).1
+        (wanted_since_if_any fs parts'.frames.view.seen a.place p.stamp begins within quietly (let has = st.latest_is in p.next.wanted has.key has.constants has.alone)) (ActsLead-entries s q es fs more (first_looper s) acts a (st.led fs (prefix_trans parts.frames.view.seen parts'.frames.view.seen fs p.grew begins) law)));
     place = (let at : (looper_pulsed q p.stamp a).place ≡ a.place = placed p.stamp in let le = st.place in let longer = prefix_length parts.frames.view.seen parts'.frames.view.seen p.grew in omega (arith, at, le, longer));
+    last = subst (λ (n : ℕ). list_any is_begin (drop n parts'.frames.view.seen) ≡ false) (sym (placed p.stamp)) quietly;
     moments = λ is fs begins law. ap (are_run_then fs) (ran p.stamp) ∙ st.moments is fs (prefix_trans parts.frames.view.seen parts'.frames.view.seen fs p.grew begins) law;
     whole = λ fs begins law. ap (are_whole (phase_count s.edition) fs) (ran p.stamp) ∙ st.whole fs (prefix_trans parts.frames.view.seen parts'.frames.view.seen fs p.grew begins) law;
     ran = ap (map (as_told lockstep)) p.asks ∙ (st.ran ∙ ap (λ (l : List FrameAt). map (as_told lockstep) (asks_to_run l)) (sym (ran p.stamp)));
@@ -122,9 +126,15 @@ module _ {lockstep : Bool} (s : Script) (q k : ℕ) where
       painted None = st.settled
       painted (Some stamp) = st.settled
 
-      by_stamp : (fs : List FrameEntry) (o : Option ℕ) → is_pulse_if_any s.period o ≡ true → comes_after_if_any a.stamp o ≡ true → (is_some o && a.awaits) ≡ false → ActsLead s q (es ++ more) fs (first_looper s) acts a → ActsLead s q (es ++ more) fs (first_looper s) (acts ++ pulse_acts o) (looper_pulsed q o a)
-      by_stamp fs None none later over lead = subst (λ l. ActsLead s q (es ++ more) fs (first_looper s) l a) (sym (append-nil acts)) lead
-      by_stamp fs (Some stamp) is_one later over lead = vsynced s q (es ++ more) fs acts a stamp is_one later over st.settled lead
+      within : a.place ≤ length parts'.frames.view.seen
+      within = let le = st.place in let longer = prefix_length parts.frames.view.seen parts'.frames.view.seen p.grew in omega (arith, le, longer)
+
+      quietly : list_any is_begin (drop a.place parts'.frames.view.seen) ≡ false
+      quietly = let has = st.latest_is in last_quietly a.place parts.frames.view.seen parts'.frames.view.seen (p.next.quiet has.key has.constants has.alone) st.place st.last
+
+      by_stamp : (fs : List FrameEntry) (o : Option ℕ) → is_pulse_if_any s.period o ≡ true → comes_after_if_any a.stamp o ≡ true → (is_some o && a.awaits) ≡ false → is_wanted_if_any (past_before_frame fs a.place) o ≡ true → ActsLead s q (es ++ more) fs (first_looper s) acts a → ActsLead s q (es ++ more) fs (first_looper s) (acts ++ pulse_acts o) (looper_pulsed q o a)
+      by_stamp fs None none later over wanted lead = subst (λ l. ActsLead s q (es ++ more) fs (first_looper s) l a) (sym (append-nil acts)) lead
+      by_stamp fs (Some stamp) is_one later over wanted lead = vsynced s q (es ++ more) fs acts a stamp is_one later over wanted st.settled lead
 
 -- ---- a dispatch
 
@@ -301,6 +311,7 @@ module _ (s : Script) (q k n now u : ℕ) (is_moment : ℕ → Bool) (m : PostDa
         (ActsLead-entries s q (es ++ e ∷ []) fs more (first_looper s) acts a (ActsLead-entries s q es fs (e ∷ []) (first_looper s) acts a (st.led fs (prefix_trans parts.frames.view.seen parts'.frames.view.seen fs d.ran.grew begins) law)))
         posts d.starts (ap (λ (b : Bool). not (is_some d.ran.frame) || b) (sym st.awaits_is) ∙ d.awaited) (sooner fs a.place (length parts.frames.view.seen) d.ran.frame st.place framed.0) (d.ran.stamped a.stamp a.awaits st.latest_is fs begins) framed.1 (adds.paints tt) refl);
     place = (let at = adds.place in let le = st.place in let longer = prefix_length parts.frames.view.seen parts'.frames.view.seen d.ran.grew in placed d.ran.frame by_dispatch.place at le longer d.ran.within);
+    last = (let has = st.latest_is in subst (λ (n : ℕ). list_any is_begin (drop n parts'.frames.view.seen) ≡ false) (sym adds.place) (d.ran.last has.key has.constants has.alone a.place st.place st.last));
     moments = λ is fs begins law.
         ap (are_run_then fs) adds_read.frames
         ∙ one_more (is_run_then fs) did.frames d.ran.frame u (st.moments is fs (prefix_trans parts.frames.view.seen parts'.frames.view.seen fs d.ran.grew begins) law)

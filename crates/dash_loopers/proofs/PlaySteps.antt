@@ -42,7 +42,8 @@ use Rattle.choreographer.proofs.Recorded.{pulse_records}
 use Rattle.dash_loopers.specs.declared.view_root.Painted.{Painted}
 use Rattle.dash_loopers.specs.declared.view_root.ViewRoot.{ViewRoot}
 use Rattle.dash_loopers.specs.declared.player.Parts.{Parts}
-use Rattle.dash_loopers.specs.Played.{standing, gauge_fixed, IsBarrierOf, IsFrameBy, calls_of, IsShown, IsPlayed, StepsRoot, Plays, RanFrame, Delivers, DeliversPulse, Pulses, looper_pulsed, paint_of, KeepsLatest, IsStampedBy, IsNextPulse, EndsLatest, HasLatest, AwaitsBehind, RunsInTime}
+use Rattle.dash_loopers.specs.Played.{standing, gauge_fixed, IsBarrierOf, IsFrameBy, calls_of, IsShown, IsPlayed, StepsRoot, Plays, RanFrame, Delivers, DeliversPulse, Pulses, looper_pulsed, paint_of, KeepsLatest, IsStampedBy, IsNextPulse, EndsLatest, HasLatest, AwaitsBehind, RunsInTime, BeginsNoneBehind}
+use Rattle.dash_loopers.proofs.WantedPulses.{last_quietly}
 use Rattle.dash_hall.proofs.FramePosts.{accepted, refused, told_one, told_none}
 use Rattle.dash_loopers.proofs.FrameIds.{turn_grew}
 use Rattle.dash_loopers.proofs.LatestPulses.{still_in_time}
@@ -349,6 +350,7 @@ frame_delivered s q now is_moment m made made' parts mid parts' acts acts0 acts'
     asks = ap pass_asks frames ∙ ran.asks;
     stamped = λ stamp waits has. subst (λ (f : Pass). IsStampedBy f ran.frame stamp) (sym frames) (ran.stamped stamp waits has);
     in_time = subst (λ (f : Pass). RunsInTime is_moment parts.frames f ran.frame) (sym frames) ran.in_time;
+    last = subst (λ (f : Pass). BeginsNoneBehind parts.frames f ran.frame) (sym frames) ran.last;
   };
   starts = ap (λ (t : Bool). not (is_some ran.frame) || t) starts ∙ or-true (not (is_some ran.frame));
   awaited = ap (λ (t : Bool). not (is_some ran.frame) || t) awaited ∙ or-true (not (is_some ran.frame));
@@ -388,7 +390,7 @@ pub step_delivered : (s : Script) (q now : ℕ) (is_moment : ℕ → Bool) (m : 
     → ((a : LooperState) → after_dispatch s q now [] m a ≡ step a) → ((a : LooperState) → (step a).painted ≡ a.painted) → Plays s q step made parts made' parts' → acts' ≡ acts → Delivers s q now is_moment m made made' parts parts' acts acts'
 step_delivered s q now is_moment m made made' parts parts' acts acts' step grew asks waits keeps quiet is_step still plays same = record {
   ids = [];
-  ran = record { frame = None; start = 0; started = refl; framed = λ fs begins is. (refl, refl, refl, refl); within = omega arith; grew = grew; asks = asks ∙ sym (append-nil (pass_asks parts.frames)); stamped = λ stamp w has fs begins. refl; in_time = still_in_time is_moment parts.frames parts'.frames keeps quiet };
+  ran = record { frame = None; start = 0; started = refl; framed = λ fs begins is. (refl, refl, refl, refl); within = omega arith; grew = grew; asks = asks ∙ sym (append-nil (pass_asks parts.frames)); stamped = λ stamp w has fs begins. refl; in_time = still_in_time is_moment parts.frames parts'.frames keeps quiet; last = λ c e named first le none. last_quietly first parts.frames.view.seen parts'.frames.view.seen (quiet c e named) le none };
   starts = refl;
   awaited = refl;
   waits = waits;

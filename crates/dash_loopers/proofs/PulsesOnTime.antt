@@ -64,6 +64,7 @@ looked_only s q now made parts g r acts asked = (
       asked = λ c e named stamp is. absurd cc;
       got = λ stamp waits has. turn_keeps_latest parts.frames g asked.0 asked.0 asked.1 refl refl stamp waits has;
       quiet = turn_quiet parts.frames g asked.0 asked.0 asked.1 refl;
+      wanted = λ c e named. refl;
       waits = refl;
     };
     due = omega arith;

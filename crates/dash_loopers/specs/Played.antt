@@ -1,9 +1,9 @@
 -- What a looper has come to, told by what it works with: the calls and the frame callbacks that its acts cause are made, and
 -- its gauges, its barrier and its rule counts stand as its acts lead to.
 use Rattle.std.specs.Prelude.{◌≡◌, ◌≢◌, ◌<◌, ◌≤◌, ◌==◌, ◌||◌, ◌&&◌, ℕ, Bool, true, false, not, cond, All, List, [], ◌∷◌, ◌++◌, map, length, slice_get}
-use Rattle.std.specs.Prelude.{slice_set}
+use Rattle.std.specs.Prelude.{slice_set, drop}
 use Rattle.std.specs.Prelude.{slice_index_or, Option, Some, None, is_some, is_none, IsSomeAnd, if◌then◌else◌, ◌+◌, ◌/◌}
-use Rattle.std.specs.List.{Contains, filter_map, list_all}
+use Rattle.std.specs.List.{Contains, filter_map, list_all, list_any}
 use Rattle.std.specs.Option.{option_map_or}
 use mathlib.Core.List.{IsPrefix}
 use Rattle.loop_model.specs.declared.post.Post.{Post as PostData}
@@ -27,7 +27,7 @@ use Rattle.looper_run.specs.Holding.{Sender}
 use Rattle.choreographer.specs.declared.view.Constants.{Constants}
 use Rattle.choreographer.specs.Known.{Pass, SeesQuietly, IfAlone}
 use Rattle.choreographer.specs.Turn.{has_later}
-use Rattle.choreographer.specs.Calls.{latest_stamp}
+use Rattle.choreographer.specs.Calls.{latest_stamp, WasWanted}
 use Rattle.choreographer.specs.declared.host.HostSent.TheVariants as host
 use Rattle.choreographer.specs.declared.hosted.Pulse.{Pulse}
 use Rattle.choreographer.specs.Client.{Run}
@@ -37,7 +37,7 @@ use Rattle.run_model.specs.Control.{Timing, At, InBlock, Exactly, AnyTime}
 use Rattle.run_model.specs.Loopers.{LooperState, SentCall, first_looper, starts_frame, after_dispatch, fires, reaction, ActsLead, IsSent, pulse_stamp}
 use Rattle.run_model.specs.Loopers.{has_frames, pulses_come_first, GaugeState}
 use Rattle.run_model.specs.Parts.{sent_on, asks_to_run}
-use Rattle.run_model.specs.FrameRecords.{millis_up, FrameAt, frame_ids, is_frame_from, has_stamp, frame_moments, place_after, are_run_then, are_whole}
+use Rattle.run_model.specs.FrameRecords.{millis_up, FrameAt, is_begin, frame_ids, is_frame_from, has_stamp, frame_moments, place_after, are_run_then, are_whole}
 use Rattle.run_model.specs.FrameRecords.{FrameAsk, Posts, Removes, Runs, as_told}
 use Rattle.run_model.specs.FrameRecords.{nanos_of}
 use Rattle.dash_hall.specs.declared.kit.Kit.{Kit}
@@ -202,14 +202,24 @@ RunsInTime is_moment before after frame =
     (t stamp : ℕ) (awaits : Bool) → ((n : ℕ) → is_moment n ≡ true → n ≡ t) → HasLatest before stamp awaits → HasSeenUpTo t before
     → HasSeenUpTo t after × (awaits ≡ true → HasLatest after stamp false → is_some frame ≡ true)
 
--- a pulse of this period came, as it was asked for, later than the latest, whose frame was not to begin any more, and is the latest now; or none came. What the
--- pass has come to see since, where it alone delivers pulses, are postings and removals. The looper awaits its frame where one came, and else as before
+-- no frame that the pass has seen begins from this place on
+abbrev pub BeginsNoneFrom : ℕ → Pass → Type 0
+BeginsNoneFrom place p = list_any is_begin (drop place p.view.seen) ≡ false
+
+-- where the pass alone delivers pulses, and had seen no frame begin from some place on, it has seen none begin behind this one, or else from that place on
+abbrev pub BeginsNoneBehind : Pass → Pass → Option ℕ → Type 0
+BeginsNoneBehind before after frame =
+    IfAlone before ((first : ℕ) → first ≤ length before.view.seen → BeginsNoneFrom first before → BeginsNoneFrom (place_after first frame) after)
+
+-- a pulse of this period came, as it was asked for, later than the latest, whose frame was not to begin any more, and is the latest now; or none came. Where
+-- the pass alone delivers pulses, one was wanted since the latest frame. What the pass has come to see since, where it alone delivers pulses, are postings and removals. The looper awaits its frame where one came, and else as before
 pub record IsNextPulse (period : ℕ) (before after : Parts) (came : Option ℕ) : Type 0 where
   pub is_pulse : is_pulse_if_any period came ≡ true
   pub later : ComesLater before.frames came
   pub asked : ComesAsAsked before.frames came
   pub got : GetsLatest before.frames after.frames came
   pub quiet : SeesQuietly before.frames after.frames
+  pub wanted : WasWanted before.frames after.frames came
   pub waits : after.awaits ≡ (is_some came || before.awaits)
 
 -- by whatever the frame record comes to, a frame that began has this stamp
@@ -230,7 +240,8 @@ asks_for (Some place) start = Runs start ∷ []
 
 -- callbacks of these identities ran, of a frame whose beginning the pass has seen, or of none, and the pass asked for that frame, by its start, and for nothing
 -- else; its moments pass the test, and it began with the stamp of the latest pulse. Where the test is of one moment alone, and the
--- pass, which alone delivers pulses, had seen no later one, it has seen none still, and a frame that was to begin and is to begin no more began
+-- pass, which alone delivers pulses, had seen no later one, it has seen none still, and a frame that was to begin and is to begin no more began. It has seen none begin behind
+-- that frame
 pub record RanFrame (interval phases : ℕ) (is_moment : ℕ → Bool) (before after : Pass) (ids : List ℕ) : Type 0 where
   pub frame : Option ℕ
   pub start : ℕ
@@ -241,6 +252,7 @@ pub record RanFrame (interval phases : ℕ) (is_moment : ℕ → Bool) (before a
   pub asks : pass_asks after ≡ pass_asks before ++ asks_for frame start
   pub stamped : (stamp : ℕ) (awaits : Bool) → HasLatest before stamp awaits → IsStampedBy after frame stamp
   pub in_time : RunsInTime is_moment before after frame
+  pub last : BeginsNoneBehind before after frame
 
 -- where the message starts a frame, no frame of a pulse is to begin any more; else all is as before
 pub record AwaitsBehind (q : ℕ) (m : PostData) (parts parts' : Parts) : Type 0 where
@@ -331,11 +343,13 @@ pub record HasAllFrames (s : Script) (es : List Entry) (acts : List Act) (p : Pa
 
 -- the looper's acts lead to the one state, by whatever its frame record comes to, and all that the other state says is so: each frame that it ran took all
 -- phases, in lockstep at its time, at which it started, and its own pass asked for these frames, as it is told in the mode, in order and for nothing else.
--- The latest pulse of its own pass is that of the acts, and its frame is to begin just where they say so; in lockstep each pulse had its frame
+-- The latest pulse of its own pass is that of the acts, and its frame is to begin just where they say so; in lockstep each pulse had its frame. Behind the
+-- latest frame of the acts its own pass has seen none begin
 pub record StandsBy (lockstep : Bool) (s : Script) (q sender : ℕ) (es : List Entry) (acts : List Act) (parts : Parts) (did a : LooperState) : Type 0 where
   pub led : (fs : List FrameEntry) → IsPrefix parts.frames.view.seen fs → lawful s.period (phase_count s.edition) fs ≡ true
       → ActsLead s q es fs (first_looper s) acts a
   pub place : a.place ≤ length parts.frames.view.seen
+  pub last : BeginsNoneFrom a.place parts.frames
   pub moments : lockstep ≡ true → (fs : List FrameEntry) → IsPrefix parts.frames.view.seen fs → lawful s.period (phase_count s.edition) fs ≡ true
       → are_run_then fs did.frames ≡ true
   pub whole : (fs : List FrameEntry) → IsPrefix parts.frames.view.seen fs → lawful s.period (phase_count s.edition) fs ≡ true

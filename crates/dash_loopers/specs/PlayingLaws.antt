@@ -108,6 +108,7 @@ module _ {lockstep : Bool} (s : Script) (q k : ℕ) where
   stands_beside es more acts parts did a same st = record {
     led = λ fs begins is. ActsLead-entries s q es fs more (first_looper s) acts a (st.led fs begins is);
     place = st.place;
+    last = st.last;
     moments = st.moments;
     whole = st.whole;
     ran = st.ran;
@@ -126,6 +127,7 @@ module _ {lockstep : Bool} (s : Script) (q k : ℕ) where
   stands_quiet es (Idle i t) acts parts did a is st = record {
     led = λ fs begins law. ActsLead-snoc s q es fs None (first_looper s) acts a (Idle i t) (st.led fs begins law) (refl, st.settled);
     place = st.place;
+    last = st.last;
     moments = st.moments;
     whole = st.whole;
     ran = st.ran;
@@ -138,6 +140,7 @@ module _ {lockstep : Bool} (s : Script) (q k : ℕ) where
   stands_quiet es (Event f e m) acts parts did a is st = record {
     led = λ fs begins law. ActsLead-snoc s q es fs None (first_looper s) acts a (Event f e m) (st.led fs begins law) (refl, st.settled);
     place = st.place;
+    last = st.last;
     moments = st.moments;
     whole = st.whole;
     ran = st.ran;

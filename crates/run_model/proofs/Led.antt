@@ -13,7 +13,7 @@ use Rattle.frame_phases.specs.declared.entry.FrameEntry.{FrameEntry}
 use Rattle.frame_phases.specs.Pulses.{comes_after}
 use Rattle.dash_script.specs.declared.script.Script.{Script}
 use Rattle.run_model.specs.Loopers.{LooperState, starts_frame, ActsLead, MayCome, after_act, dispatched}
-use Rattle.run_model.specs.FrameRecords.{is_begin, has_stamp}
+use Rattle.run_model.specs.FrameRecords.{is_begin, has_stamp, was_wanted}
 
 -- the places at which frames begin
 abbrev begins_from : ℕ → List FrameEntry → List (Option ℕ)
@@ -36,11 +36,11 @@ paints_so s q es fs a (Vsync stamp) frame = true
 paints_so s q es fs a (Idle i k) frame = true
 paints_so s q es fs a (Event f e m) frame = true
 
--- a frame that it runs has the stamp of the latest pulse, which awaits it, and a pulse comes after that one and once its frame is awaited no more
+-- a frame that it runs has the stamp of the latest pulse, which awaits it, and a pulse comes after that one, once its frame is awaited no more, where it was wanted
 abbrev stamped_so : List FrameEntry → LooperState → Act → Option ℕ → Bool
 stamped_so fs a (Dispatch n now route) frame = has_stamp fs frame a.stamp && (not (is_some frame) || a.awaits)
 stamped_so fs a (Paint g v) frame = true
-stamped_so fs a (Vsync stamp) frame = comes_after a.stamp stamp && not a.awaits
+stamped_so fs a (Vsync stamp) frame = comes_after a.stamp stamp && not a.awaits && was_wanted fs a.place stamp
 stamped_so fs a (Idle i k) frame = true
 stamped_so fs a (Event f e m) frame = true
 
@@ -93,7 +93,8 @@ paints_as_told s q es fs frame a (Event f e m) comes = refl
 stamped_as_told : (s : Script) (q : ℕ) (es : List Entry) (fs : List FrameEntry) (frame : Option ℕ) (a : LooperState) (x : Act) → MayCome s q es fs frame a x → stamped_so fs a x frame ≡ true
 stamped_as_told s q es fs frame a (Dispatch n now route) comes = and_from (has_stamp fs frame a.stamp) (not (is_some frame) || a.awaits) comes.stamped comes.awaited
 stamped_as_told s q es fs frame a (Paint g v) comes = refl
-stamped_as_told s q es fs frame a (Vsync stamp) comes = and_from (comes_after a.stamp stamp) (not a.awaits) comes.1.later (rw comes.1.awaited refl)
+stamped_as_told s q es fs frame a (Vsync stamp) comes =
+    and_from (comes_after a.stamp stamp && not a.awaits) (was_wanted fs a.place stamp) (and_from (comes_after a.stamp stamp) (not a.awaits) comes.1.later (rw comes.1.awaited refl)) comes.1.wanted
 stamped_as_told s q es fs frame a (Idle i k) comes = refl
 stamped_as_told s q es fs frame a (Event f e m) comes = refl
 

@@ -153,16 +153,17 @@ lawful_by_run s (row ∷ rows) r = r.frames.0.lawful
 
 abbrev unlawful : List Faulty
 unlawful =
-    -- a frame callback that is posted at 10 with a delay of 20 runs in the frame at 17
-    faulty but.Lawful (plain_script 1 1 (handler_on 0 ∷ []) (block 10 (by 0 (command.Frame 0 0 8 20) ∷ []) ∷ []) 34) (record {
+    -- a frame callback that is posted at 10 with a delay of 20 runs in the frame at 17, with one that is posted without delay
+    faulty but.Lawful (plain_script 1 1 (handler_on 0 ∷ []) (block 10 (by 0 (command.Frame 0 0 8 20) ∷ by 0 (command.Frame 0 0 9 0) ∷ []) ∷ []) 34) (record {
       entries = entry 2 0 (call.Advance 10) reply.Advanced ∷ entry 0 0 (call.Post (record (frame_message 0 30 None) { what = 2 })) (reply.Accepted 0)
           ∷ entry 2 1 (call.Advance 17) reply.Advanced ∷ entry 1 0 (call.Post (frame_message 0 16 None)) (reply.Accepted 1)
           ∷ entry 1 1 (call.Next 17) (reply.Dispatched 1) ∷ entry 2 2 (call.Advance 30) reply.Advanced ∷ entry 1 2 (call.Next 30) (reply.Dispatched 0)
           ∷ entry 2 3 (call.Advance 34) reply.Advanced ∷ entry 2 4 (call.Halt 34) reply.Halted ∷ [];
       acts = act.Vsync 16666667 ∷ act.Dispatch 1 17 route.Intercepted ∷ act.Dispatch 0 30 route.Intercepted ∷ [];
-      frames = frame.Posted (callback 0 0 30 8) ∷ frame.Begin 16666667 17000000 16666667 ∷ frame.Take 0 17000000 16666667 ∷ frame.Ran 0
+      frames = frame.Posted (callback 0 0 30 8) ∷ frame.Posted (callback 1 0 10 9) ∷ frame.Begin 16666667 17000000 16666667 ∷ frame.Take 0 17000000 16666667
+          ∷ frame.Ran 1 ∷ frame.Ran 0
           ∷ frame.Take 1 17000000 16666667 ∷ frame.Take 2 17000000 16666667 ∷ frame.Take 3 17000000 16666667 ∷ [];
-      places = None ∷ Some 1 ∷ [];
+      places = None ∷ Some 2 ∷ [];
       disposed_at = 0;
     } ∷ [])
     ∷ []

@@ -1,8 +1,8 @@
 -- Reports that are no runs of their script: pulses don't rise, come at another time than their own, behind a dispatch of their own time, or before the frame of
--- the one before them, or have no frame.
+-- the one before them, have no frame, or weren't wanted.
 use Rattle.std.proofs.Common.{◌≡◌, ℕ, Bool, true, Option, List, [], ◌∷◌, ◌++◌, Some, None, refl}
 use Rattle.std.specs.List.{AllByRecursion}
-use Rattle.std.specs.Prelude.{map}
+use Rattle.std.specs.Prelude.{map, length}
 use Rattle.loop_model.specs.declared.call.Call.TheVariants as call
 use Rattle.loop_model.specs.declared.reply.Reply.TheVariants as reply
 use Rattle.loop_model.specs.declared.journal.Act.TheVariants as act
@@ -22,6 +22,7 @@ use Rattle.run_model.proofs.Led.{any_led, led_passes}
 use Rattle.run_model.proofs.OneFault.{Faulty, faulty, Fails, each_fails}
 use Rattle.run_model.proofs.NotRuns.{dispatch}
 use Rattle.run_model.proofs.NotRunsFrames.{main_tells_asked, told_by_run}
+use Rattle.loop_model.specs.declared.entry.Entry.{Entry}
 
 -- a thread posts one frame callback
 abbrev one_callback : ℕ → Script
@@ -245,3 +246,48 @@ not_first =
 pub not_first_fail : AllByRecursion Fails not_first
 unfolding computing
 not_first_fail = each_fails main_pulses_first first_by_run not_first refl refl
+
+-- ---- a pulse that nobody asked for
+
+-- the pulse of 16666667 comes, and its frame runs no callback; a thread has made these calls, and the record begins with these entries
+abbrev unwanted_at_17 : List Entry → ℕ → List FrameEntry → Row
+unwanted_at_17 called accepted posted = record {
+  entries = entry 2 0 (call.Advance 10) reply.Advanced ∷ called ++ entry 2 1 (call.Advance 17) reply.Advanced
+      ∷ entry 1 0 (call.Post (frame_message 0 16 None)) (reply.Accepted accepted) ∷ entry 1 1 (call.Next 17) (reply.Dispatched accepted)
+      ∷ entry 2 2 (call.Advance 20) reply.Advanced ∷ entry 2 3 (call.Halt 20) reply.Halted ∷ [];
+  acts = act.Vsync 16666667 ∷ dispatch accepted 17 ∷ [];
+  frames = posted ++ frame.Begin 16666667 17000000 16666667 ∷ frame.Take 0 17000000 16666667 ∷ frame.Take 1 17000000 16666667 ∷ frame.Take 2 17000000 16666667
+      ∷ frame.Take 3 17000000 16666667 ∷ [];
+  places = None ∷ Some (length posted) ∷ [];
+  disposed_at = 0;
+}
+
+abbrev unwanted : List Faulty
+unwanted =
+    -- no callback is posted at all
+    faulty but.Wanted (plain_script 1 1 (handler_on 0 ∷ []) (block 10 [] ∷ []) 20) (unwanted_at_17 [] 0 [] ∷ [])
+    -- the one that is posted is due later
+    ∷ faulty but.Wanted (plain_script 1 1 (handler_on 0 ∷ []) (block 10 (by 0 (command.Frame 0 0 8 20) ∷ []) ∷ []) 20)
+    (unwanted_at_17 (entry 0 0 (call.Post (record (frame_message 0 30 None) { what = 2 })) (reply.Accepted 0) ∷ []) 1 (frame.Posted (callback 0 0 30 8) ∷ []) ∷ [])
+    -- the one that is posted ran in the frame at 17, and the frame at 34 had none left for the pulse behind it
+    ∷ faulty but.Wanted (one_callback 60) (record {
+      entries = entry 2 0 (call.Advance 10) reply.Advanced ∷ entry 2 1 (call.Advance 17) reply.Advanced
+          ∷ entry 1 0 (call.Post (frame_message 0 16 None)) (reply.Accepted 0) ∷ entry 1 1 (call.Next 17) (reply.Dispatched 0)
+          ∷ entry 2 2 (call.Advance 34) reply.Advanced
+          ∷ entry 1 2 (call.Post (frame_message 0 33 None)) (reply.Accepted 1) ∷ entry 1 3 (call.Next 34) (reply.Dispatched 1)
+          ∷ entry 2 3 (call.Advance 51) reply.Advanced
+          ∷ entry 1 4 (call.Post (frame_message 0 50 None)) (reply.Accepted 2) ∷ entry 1 5 (call.Next 51) (reply.Dispatched 2)
+          ∷ entry 2 4 (call.Advance 60) reply.Advanced ∷ entry 2 5 (call.Halt 60) reply.Halted ∷ [];
+      acts = act.Vsync 16666667 ∷ dispatch 0 17 ∷ act.Vsync 33333334 ∷ dispatch 1 34 ∷ act.Vsync 50000001 ∷ dispatch 2 51 ∷ [];
+      frames = frame.Posted (callback 0 0 10 8) ∷ frame.Begin 16666667 17000000 16666667 ∷ frame.Take 0 17000000 16666667 ∷ frame.Ran 0
+          ∷ frame.Take 1 17000000 16666667 ∷ frame.Take 2 17000000 16666667 ∷ frame.Take 3 17000000 16666667 ∷ frame_at_34 33333334 33333334 []
+          ++ frame.Begin 50000001 51000000 50000001 ∷ frame.Take 0 51000000 50000001 ∷ frame.Take 1 51000000 50000001 ∷ frame.Take 2 51000000 50000001
+          ∷ frame.Take 3 51000000 50000001 ∷ [];
+      places = None ∷ Some 1 ∷ None ∷ Some 7 ∷ None ∷ Some 12 ∷ [];
+      disposed_at = 0;
+    } ∷ [])
+    ∷ []
+
+pub unwanted_fail : AllByRecursion Fails unwanted
+unfolding computing
+unwanted_fail = each_fails main_tells_asked told_by_run unwanted refl refl

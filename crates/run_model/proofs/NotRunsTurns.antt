@@ -61,8 +61,8 @@ out_of_turn =
     ∷ one_frame (block 10 (by 0 (command.Frame 0 0 8 0) ∷ by 1 (command.Frame 0 0 9 0) ∷ []) ∷ block 18 [] ∷ []) 1
     (frame.Posted (callback 0 0 10 9) ∷ frame_at_17 (frame.Ran 0 ∷ []) ++ frame.Posted (callback 1 0 10 8) ∷ [])
     -- a line removes what a line of a later block posts
-    ∷ one_frame (block 10 (by 1 (command.Unframe 0 0 8) ∷ []) ∷ block 17 (by 0 (command.Frame 0 0 8 0) ∷ []) ∷ block 18 [] ∷ []) 2
-    (frame.Posted (callback 0 0 17 8) ∷ frame.Removed 0 8 None 1 ∷ frame_at_17 [])
+    ∷ one_frame (block 10 (by 1 (command.Unframe 0 0 8) ∷ []) ∷ block 16 (by 0 (command.Frame 0 0 8 0) ∷ []) ∷ block 18 [] ∷ []) 2
+    (frame.Posted (callback 0 0 16 8) ∷ frame.Removed 0 8 None 1 ∷ frame_at_17 [])
     -- a gauge's callback stands before that of a line of the block that sets the gauge, and so runs before it
     ∷ gauge_beside 20 1 gauge_entries gauge_acts (
     frame.Posted (callback 0 1 0 1000000) ∷ frame.Posted (callback 1 2 0 1000016) ∷ frame.Posted (callback 2 1 0 8) ∷ frame.Begin 16666667 17000000 16666667

@@ -1,5 +1,5 @@
 -- Runs of a script in lockstep but for one clause: what is shown of a report that has one fault.
-use Rattle.std.proofs.Common.{◌≡◌, ◌<◌, ℕ, true, false, List, [], ◌∷◌, Option}
+use Rattle.std.proofs.Common.{◌≡◌, ◌<◌, ℕ, true, false, List, [], ◌∷◌, Option, None}
 use Rattle.std.specs.Prelude.{◌==◌, map, MatchBool}
 use Rattle.std.specs.List.{AllByRecursion, filter_map, enumerate_from}
 use mathlib.Core.List.{IsPrefix}
@@ -70,6 +70,8 @@ pub data Clause : Type 0 where
   Framed : Clause
   -- each pulse comes before the dispatches of its own millisecond
   First : Clause
+  -- each pulse was wanted
+  Wanted : Clause
   -- a choreographer's record is lawful
   Lawful : Clause
   -- what is painted at the end is told
@@ -105,6 +107,7 @@ number_of Settled = 21
 number_of Controlled = 22
 number_of Halted = 23
 number_of First = 24
+number_of Wanted = 25
 
 -- this is so, unless it is the clause that is left out
 abbrev pub Unless : Clause → Clause → Type 0 → Type 0
@@ -137,10 +140,22 @@ before_act Rising x a = first_pulse x a
 before_act Awaited x a = whenever x a
 before_act _ x a = a
 
+-- where it is left out that pulses were wanted, a callback was live that is due at 0
+abbrev entries_for_pulse : List FrameEntry → Act → List FrameEntry
+entries_for_pulse fs (Vsync stamp) = Posted (record { number = 0; phase = 0; due = 0; id = 0; token = None }) ∷ []
+entries_for_pulse fs (Dispatch n now route) = fs
+entries_for_pulse fs (Paint g v) = fs
+entries_for_pulse fs (Idle i k) = fs
+entries_for_pulse fs (Event f e m) = fs
+
+abbrev pub entries_for_act : Clause → Act → List FrameEntry → List FrameEntry
+entries_for_act Wanted x fs = entries_for_pulse fs x
+entries_for_act _ x fs = fs
+
 -- the acts lead a looper from one state to another, but for the clause that is left out
 abbrev pub LeadBut : Clause → Script → ℕ → List Entry → List FrameEntry → LooperState → List Act → LooperState → Type 0
 LeadBut out s q es fs a [] b = a ≡ b
-LeadBut out s q es fs a (x ∷ xs) b = (frame : Option ℕ) × (MayCome s q es fs frame (before_act out x a) x × LeadBut out s q es fs (after_act s q es fs frame a x) xs b)
+LeadBut out s q es fs a (x ∷ xs) b = (frame : Option ℕ) × (MayCome s q es (entries_for_act out x fs) frame (before_act out x a) x × LeadBut out s q es fs (after_act s q es fs frame a x) xs b)
 
 -- where it is left out that asks are made in turn, all are made at once
 abbrev pub made_but : Clause → List (List TimedAsk) → List (List TimedAsk)

@@ -25,6 +25,7 @@ use Rattle.loop_model.specs.Dispatches.{act_dispatch, call_dispatch}
 use Rattle.frame_phases.specs.declared.entry.FrameEntry.{FrameEntry}
 use Rattle.frame_phases.specs.declared.entry.FrameRecord.{FrameRecord}
 use Rattle.frame_phases.specs.Pulses.{are_stamped, comes_after}
+use Rattle.frame_phases.specs.Wanted.{wanted_by}
 use Rattle.frame_phases.specs.Frames.{lawful, is_pulse, all_allowed, is_allowed, owed_callbacks, next_phase, last_time, in_due_order, before_later, live_callbacks, posted_count}
 use Rattle.dash_script.specs.declared.script.Block.{Block}
 use Rattle.dash_script.specs.declared.script.Script.{Script}
@@ -34,7 +35,7 @@ use Rattle.run_model.specs.Planned.{history_of, AreFor, bare_call, call_of, toke
 use Rattle.run_model.specs.Moments.{in_lockstep}
 use Rattle.run_model.specs.Control.{InBlock, is_controlled, is_called_in_time, are_before_quit, befores, are_on_time, Move, moves, move_times, main_moves, is_planned_time, was_due_at, MayMoveTo}
 use Rattle.run_model.specs.Loopers.{LooperState, SentCall, first_looper, starts_frame, IsSent, MayCome, after_act, dispatched, asked_then, has_frames, pulses_come_first}
-use Rattle.run_model.specs.FrameRecords.{millis_up, is_frame_from, has_stamp, are_run_then, are_whole, asks_in}
+use Rattle.run_model.specs.FrameRecords.{millis_up, is_frame_from, has_stamp, was_wanted, are_run_then, are_whole, asks_in}
 use Rattle.run_model.specs.Run.{IsRun, IsRecordOf, IsAsPlanned, IsControlled, EachLooper, record_setting, caused_on, are_in_order, main_ends_halted}
 use Rattle.run_model.specs.Parts.{all_entries}
 use Rattle.run_model.specs.Text.{report_text, report_lines}
@@ -42,7 +43,7 @@ use Rattle.run_model.proofs.Below.{EachBelow, each_below}
 use Rattle.run_model.proofs.Parting.{can_ask_in_turn, asks_are_in_turn}
 use Rattle.run_model.proofs.ByTests.{answers, replies, are_timely, are_numbered, history_by, planned_calls, made_calls, thread_lines, MakesThem, calls_by}
 use Rattle.run_model.proofs.Examples.{queue, journal, page, handler_on, plain_script}
-use Rattle.run_model.proofs.RunBut.{Clause, Nothing, Asked, Stamps, Whole, Moments, Starts, Pulses, OnTime, Takes, Controls, BeforeQuit, Threads, Order, Blocks, Due, Together, Rising, Awaited, Framed, First, Lawful, Settled, Controlled, Halted, number_of, Unless, with_pulses, with_stamps, made_but, before_act, LeadBut, IsFrameRunBut, IsLooperRunBut, IsTimelyBut, IsRunBut}
+use Rattle.run_model.proofs.RunBut.{Clause, Nothing, Asked, Stamps, Whole, Moments, Starts, Pulses, OnTime, Takes, Controls, BeforeQuit, Threads, Order, Blocks, Due, Together, Rising, Awaited, Framed, First, Lawful, Settled, Controlled, Halted, number_of, Unless, with_pulses, with_stamps, made_but, before_act, entries_for_act, LeadBut, IsFrameRunBut, IsLooperRunBut, IsTimelyBut, IsRunBut}
 use Rattle.run_model.proofs.RunBut as but
 
 -- ---- a report as data
@@ -164,7 +165,7 @@ act_may s q es fs frame a (Dispatch n now route) =
     is_some (post_at es n) && (not (is_some frame) || option_map_or (starts_frame q) (post_at es n) false) && (not (is_some frame) || a.awaits)
     && is_frame_from fs a.place frame && has_stamp fs frame a.stamp
 act_may s q es fs frame a (Paint g v) = not (is_some frame)
-act_may s q es fs frame a (Vsync stamp) = is_clear frame a.painted && not a.awaits && is_pulse s.period stamp && comes_after a.stamp stamp
+act_may s q es fs frame a (Vsync stamp) = is_clear frame a.painted && not a.awaits && is_pulse s.period stamp && comes_after a.stamp stamp && was_wanted fs a.place stamp
 act_may s q es fs frame a (Idle i k) = is_clear frame a.painted
 act_may s q es fs frame a (Event f e m) = is_clear frame a.painted
 
@@ -179,12 +180,12 @@ act_paints s q es fs frame a (Event f e m) = a.painted
 abbrev acts_may : Clause → Script → ℕ → List Entry → List FrameEntry → List (Option ℕ) → LooperState → List Act → Bool
 acts_may out s q es fs places a [] = true
 acts_may out s q es fs places a (x ∷ xs) =
-    act_may s q es fs (place_first places) (before_act out x a) x && acts_may out s q es fs (behind_first places) (after_act s q es fs (place_first places) a x) xs
+    act_may s q es (entries_for_act out x fs) (place_first places) (before_act out x a) x && acts_may out s q es fs (behind_first places) (after_act s q es fs (place_first places) a x) xs
 
 abbrev acts_paint : Clause → Script → ℕ → List Entry → List FrameEntry → List (Option ℕ) → LooperState → List Act → List (List Act)
 acts_paint out s q es fs places a [] = []
 acts_paint out s q es fs places a (x ∷ xs) =
-    act_paints s q es fs (place_first places) (before_act out x a) x ∷ acts_paint out s q es fs (behind_first places) (after_act s q es fs (place_first places) a x) xs
+    act_paints s q es (entries_for_act out x fs) (place_first places) (before_act out x a) x ∷ acts_paint out s q es fs (behind_first places) (after_act s q es fs (place_first places) a x) xs
 
 abbrev acts_painted : Clause → Script → ℕ → List Entry → List FrameEntry → List (Option ℕ) → LooperState → List Act → List (List Act)
 acts_painted out s q es fs places a [] = []
@@ -213,10 +214,11 @@ may_come s q es fs frame a (Dispatch n now route) h painted =
     record { accepted = one.0; starts = one.1; awaited = two.1; place = three.1; stamped = four.1; painted = painted }
 may_come s q es fs frame a (Paint g v) h painted = none_there frame h
 may_come s q es fs frame a (Vsync stamp) h painted =
-    let three = and_parts (is_clear frame a.painted && not a.awaits && is_pulse s.period stamp) (comes_after a.stamp stamp) h in
+    let four = and_parts (is_clear frame a.painted && not a.awaits && is_pulse s.period stamp && comes_after a.stamp stamp) (was_wanted fs a.place stamp) h in
+    let three = and_parts (is_clear frame a.painted && not a.awaits && is_pulse s.period stamp) (comes_after a.stamp stamp) four.0 in
     let two = and_parts (is_clear frame a.painted && not a.awaits) (is_pulse s.period stamp) three.0 in
     let one = and_parts (is_clear frame a.painted) (not a.awaits) two.0 in
-    let c = clear_parts frame a.painted one.0 in (c.0, record { painted = c.1; awaited = not-true a.awaits one.1; pulse = two.1; later = three.1 })
+    let c = clear_parts frame a.painted one.0 in (c.0, record { painted = c.1; awaited = not-true a.awaits one.1; pulse = two.1; later = three.1; wanted = four.1 })
 may_come s q es fs frame a (Idle i k) h painted = clear_parts frame a.painted h
 may_come s q es fs frame a (Event f e m) h painted = clear_parts frame a.painted h
 
@@ -227,10 +229,11 @@ leads out s q es fs places a (x ∷ xs) h painted =
     let frame = place_first places in
     let next = after_act s q es fs frame a x in
     let before = before_act out x a in
-    let two = and_parts (act_may s q es fs frame before x) (acts_may out s q es fs (behind_first places) next xs) h in
-    let now = firsts (act_paints s q es fs frame before x) before.painted (acts_paint out s q es fs (behind_first places) next xs) (acts_painted out s q es fs (behind_first places) next xs) painted in
-    let later = others (act_paints s q es fs frame before x) before.painted (acts_paint out s q es fs (behind_first places) next xs) (acts_painted out s q es fs (behind_first places) next xs) painted in
-    (frame, (may_come s q es fs frame before x two.0 now, leads out s q es fs (behind_first places) next xs two.1 later))
+    let told = entries_for_act out x fs in
+    let two = and_parts (act_may s q es told frame before x) (acts_may out s q es fs (behind_first places) next xs) h in
+    let now = firsts (act_paints s q es told frame before x) before.painted (acts_paint out s q es fs (behind_first places) next xs) (acts_painted out s q es fs (behind_first places) next xs) painted in
+    let later = others (act_paints s q es told frame before x) before.painted (acts_paint out s q es fs (behind_first places) next xs) (acts_painted out s q es fs (behind_first places) next xs) painted in
+    (frame, (may_come s q es told frame before x two.0 now, leads out s q es fs (behind_first places) next xs two.1 later))
 
 -- ---- the calls of a looper
 
@@ -557,7 +560,7 @@ run_by s rows e = but.is_run s (report_of s rows) (run_but_by Nothing s rows e)
 -- all with which the equation computes
 unfoldable pub computing : Unit {0}
 unfolding answer clock accepted_count barrier_count quit_place has_disposed has_halted live first_eligible pick made_count is_controlled
-    lawful all_allowed is_allowed owed_callbacks next_phase last_time in_due_order before_later live_callbacks posted_count
+    lawful all_allowed is_allowed owed_callbacks next_phase last_time in_due_order before_later live_callbacks posted_count wanted_by
     after_act befores is_called_in_time are_before_quit are_in_order moves
 computing = tt
 

@@ -17,7 +17,7 @@ use Rattle.frame_phases.specs.Frames.{is_pulse}
 use Rattle.frame_phases.specs.Pulses.{comes_after}
 use Rattle.dash_script.specs.declared.script.Rule.{Rule}
 use Rattle.dash_script.specs.declared.script.Script.{Script}
-use Rattle.run_model.specs.FrameRecords.{TimedAsk, asked_in_rounds, lines_ask_then, millis_up, FrameAsk, Posts, FrameAt, frame_ids, is_frame_from, has_stamp}
+use Rattle.run_model.specs.FrameRecords.{TimedAsk, asked_in_rounds, lines_ask_then, millis_up, FrameAsk, Posts, FrameAt, frame_ids, is_frame_from, has_stamp, was_wanted}
 use Rattle.run_model.specs.FrameRecords.{place_after, frames_after, Runs, nanos_of}
 use Rattle.run_model.specs.Planned.{Ask, Makes, Unbars, bare_call, call_of, looper_of, gauge_line, gauge_looper, frame_handler, animation_id, animation_phase}
 use Rattle.run_model.specs.Planned.{traversal_id, traversal_phase, sent_by, frame_due, frame_message, lines_of}
@@ -193,18 +193,20 @@ pub record MayDispatch (s : Script) (q : ℕ) (es : List Entry) (fs : List Frame
   pub stamped : has_stamp fs frame a.stamp ≡ true
   pub painted : (dispatched s q fs frame n now a (post_at es n)).painted ≡ a.painted
 
--- a pulse comes at a positive multiple of the period, or at the greatest u64, after the pulse before it, and only once that one's frame message is taken
-pub record MayComeAsPulse (s : Script) (a : LooperState) (stamp : ℕ) : Type 0 where
+-- a pulse comes at a positive multiple of the period, or at the greatest u64, after the pulse before it, only once that one's frame message is taken, and
+-- only where it was wanted since the frame before
+pub record MayComeAsPulse (s : Script) (fs : List FrameEntry) (a : LooperState) (stamp : ℕ) : Type 0 where
   pub painted : a.painted ≡ []
   pub awaited : a.awaits ≡ false
   pub pulse : is_pulse s.period stamp ≡ true
   pub later : comes_after a.stamp stamp ≡ true
+  pub wanted : was_wanted fs a.place stamp ≡ true
 
 -- the act may come next: paints stand nowhere but just before the dispatch that makes them
 abbrev pub MayCome : Script → ℕ → List Entry → List FrameEntry → Option ℕ → LooperState → Act → Type 0
 MayCome s q es fs frame a (Dispatch n now route) = MayDispatch s q es fs frame a n now
 MayCome s q es fs frame a (Paint g v) = frame ≡ None
-MayCome s q es fs frame a (Vsync stamp) = (frame ≡ None) × MayComeAsPulse s a stamp
+MayCome s q es fs frame a (Vsync stamp) = (frame ≡ None) × MayComeAsPulse s fs a stamp
 MayCome s q es fs frame a _ = (frame ≡ None) × (a.painted ≡ [])
 
 -- the acts lead a looper from one state to another

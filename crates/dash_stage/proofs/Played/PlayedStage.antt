@@ -22,6 +22,7 @@ use Rattle.run_model.specs.Parts.{sent_on}
 use Rattle.loop_model.specs.Base.{empty_base}
 use Rattle.loop_model.specs.Answers.{clock}
 use Rattle.choreographer.proofs.InTime.{later_quietly}
+use Rattle.dash_loopers.proofs.WantedPulses.{last_quietly}
 use Rattle.dash_loopers.specs.PlayingLaws.{runs_later}
 use Rattle.run_model.specs.Control.{are_on_time, befores}
 use Rattle.run_model.proofs.Growth.{ActsLead-entries}
@@ -95,6 +96,7 @@ stands_heard {lockstep} s q k es es' acts parts parts' did a more calls frames c
       subst (λ l. ActsLead s q l fs (first_looper s) acts a) more.1
       (ActsLead-entries s q es fs more.0 (first_looper s) acts a (st.led fs (prefix_trans parts.frames.view.seen parts'.frames.view.seen fs frames.seen begins) law));
   place = let le = prefix_length parts.frames.view.seen parts'.frames.view.seen frames.seen in let was = st.place in omega (arith, le, was);
+  last = let has = st.latest_is in last_quietly a.place parts.frames.view.seen parts'.frames.view.seen (frames.same.quiet has.key has.constants has.alone) st.place st.last;
   moments = λ is fs begins law. st.moments is fs (prefix_trans parts.frames.view.seen parts'.frames.view.seen fs frames.seen begins) law;
   whole = λ fs begins law. st.whole fs (prefix_trans parts.frames.view.seen parts'.frames.view.seen fs frames.seen begins) law;
   ran = ap (λ (es : List FrameEntry). map (as_told lockstep) (asks_in es)) frames.same.own ∙ st.ran;

@@ -12,6 +12,7 @@ give-requires-clause-leaves g c = record {
   handed = search rules;
   latest = keeps_pulse c.args.self.now.constants c.pass.inside.seat.me.0 c.take-state.result c.take-state.result c.take-state.new.seat.me c.take-state.ensures.taken refl (keeps_all c.take-state.result c.take-state.result refl) c.take-state.ensures.found.asks (grows_self c.take-state.result.frames.entries);
   asks = search rules;
+  wanted = search rules;
 }
 
 pub returns-clause-turn : goal.returns-clause-turn

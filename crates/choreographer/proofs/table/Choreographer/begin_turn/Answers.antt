@@ -5,6 +5,7 @@ use Rattle.choreographer.proofs.ByTurn.{turned, begin_gives, keeps_handed, may_p
 use Rattle.choreographer.proofs.Stamps.{stamped_begin}
 use Rattle.choreographer.proofs.Clock.{backs_late}
 use Rattle.choreographer.proofs.Waits.{begun_asks}
+use Rattle.choreographer.proofs.Wanting.{begun_wanted}
 use Rattle.choreographer.proofs.table.Choreographer.begin_turn.Goals as goal
 
 pub give-requires-clause-leaves : goal.give-requires-clause-leaves
@@ -28,6 +29,13 @@ give-requires-clause-leaves g c = record {
       (c.take-state.ensures.found.latest n named only).1
       ∙ (ap (λ (p : Pass). p.view.awaits) c.pass.view_is ∙ c.requires.begins.1 c.args.self.now.constants c.requires.pass.1 (named ∙ ap Some (sym is))))
       c.take-state.ensures.found.asks;
+  wanted = begun_wanted c.args.self.now.constants c.take-state.result c.begin_frame-answer.new.self c.take-state.ensures.found.wanted c.args.start c.begin_frame-answer.result c.take-state.ensures.found.stamped.interval c.begin_frame-answer.ensures.fits
+      c.begin_frame-answer.ensures.begins c.begin_frame-answer.ensures.stamp
+      (λ n named.
+      let is : c.args.pass.now.number ≡ n = c.requires.begins.0 n named in
+      let only : c.pass.inside.seat.me.0.passes ≡ n ∷ [] = c.pass.invariant.2 ∙ ap (λ (k : ℕ). k ∷ []) (ap (λ (p : Pass). p.number) c.pass.view_is ∙ is) in
+      (c.take-state.ensures.found.latest n named only).1
+      ∙ (ap (λ (p : Pass). p.view.awaits) c.pass.view_is ∙ c.requires.begins.1 c.args.self.now.constants c.requires.pass.1 (named ∙ ap Some (sym is))));
 }
 
 pub returns-clause-turn : goal.returns-clause-turn

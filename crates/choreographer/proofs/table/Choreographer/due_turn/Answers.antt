@@ -1,8 +1,9 @@
-use Rattle.std.proofs.Common.{rules}
+use Rattle.std.proofs.Common.{rules, arith}
 use Rattle.choreographer.proofs.ByTurn.{turned, keeps_pulse}
 use Rattle.choreographer.proofs.Quiet.{grows_prefix}
 use Rattle.choreographer.proofs.Stamps.{stamped_due}
 use Rattle.choreographer.proofs.Waits.{due_waits}
+use Rattle.choreographer.proofs.Wanting.{due_wanted}
 use Rattle.choreographer.proofs.table.Choreographer.due_turn.Goals as goal
 
 pub give-requires-clause-leaves : goal.give-requires-clause-leaves
@@ -14,6 +15,7 @@ give-requires-clause-leaves g c = record {
   handed = search rules;
   latest = keeps_pulse c.args.self.now.constants c.pass.inside.seat.me.0 c.take-state.result c.schedule_due-did.new.self c.take-state.new.seat.me c.take-state.ensures.taken c.schedule_due-did.ensures.stamp (due_waits c.take-state.result c.schedule_due-did.new.self c.args.now c.schedule_due-did.result c.schedule_due-did.ensures.after) c.take-state.ensures.found.asks c.schedule_due-did.ensures.quiet.1;
   asks = (due_waits c.take-state.result c.schedule_due-did.new.self c.args.now c.schedule_due-did.result c.schedule_due-did.ensures.after).asks c.args.self.now.constants c.take-state.ensures.found.asks;
+  wanted = due_wanted c.args.self.now.constants c.take-state.result c.schedule_due-did.new.self c.take-state.ensures.found.wanted c.args.phase c.args.now c.schedule_due-did.result c.take-state.ensures.found.stamped.interval (omega (arith, c.ranges.now)) c.schedule_due-did.ensures.wanted c.schedule_due-did.ensures.after;
 }
 
 pub returns : goal.returns

@@ -2,7 +2,7 @@ use Rattle.std.proofs.Common.{rules, ◌≡◌, ◌∷◌, [], Some, ap, sym, �
 use Rattle.atomic_table.specs.Table.{rest}
 use Rattle.choreographer.specs.declared.view.Constants.{Constants}
 use Rattle.choreographer.specs.declared.view.View.{View}
-use Rattle.choreographer.specs.Turn.{giving, AsksIfScheduled}
+use Rattle.choreographer.specs.Turn.{giving, AsksIfScheduled, SchedulesIfWanted}
 use Rattle.choreographer.specs.Plays.{Sat, MayGive, MaySeal, MayPulse}
 use Rattle.choreographer.specs.Known.{SharedFrames, HasOwn}
 use Rattle.choreographer.proofs.Turns.{gives_turn}
@@ -18,6 +18,7 @@ store-requires c =
       search rules,
       gives_turn c.self.inside.table.shared.key _ _ m c.args.state carries (ap (λ (v : View). v.has_turn) same ∙ c.requires.turn.1) (search rules) c.requires.leaves.stamped
           (subst (λ (k : Constants). AsksIfScheduled k c.args.state) (ap (λ (z : SharedFrames). z.constants) (sym c.self.view_is)) c.requires.leaves.asks)
+          (subst (λ (k : Constants). SchedulesIfWanted k c.args.state) (ap (λ (z : SharedFrames). z.constants) (sym c.self.view_is)) c.requires.leaves.wanted)
           (subst (λ (z : Constants × View). MaySeal z.0 z.1 c.args.state) (λ i. (ap (λ (z : SharedFrames). z.constants) (sym c.self.view_is) i, sym same i)) c.requires.leaves.handed)
           (subst (λ (z : Constants × View). MayPulse z.0 z.1 c.args.state) (λ i. (ap (λ (z : SharedFrames). z.constants) (sym c.self.view_is) i, sym same i)) c.requires.leaves.latest)
           (subst (λ (v : View). MayGive v c.args.state) (sym same) c.requires.leaves.state.1),

@@ -1,8 +1,9 @@
-use Rattle.std.proofs.Common.{rules}
+use Rattle.std.proofs.Common.{rules, arith}
 use Rattle.choreographer.proofs.ByTurn.{turned, keeps_pulse}
 use Rattle.choreographer.proofs.Quiet.{grows_prefix}
 use Rattle.choreographer.proofs.Stamps.{stamped_posted}
 use Rattle.choreographer.proofs.Waits.{posted_waits}
+use Rattle.choreographer.proofs.Wanting.{posted_wanted}
 use Rattle.choreographer.proofs.table.Choreographer.post_turn.Goals as goal
 
 pub give-requires-clause-leaves : goal.give-requires-clause-leaves
@@ -14,6 +15,7 @@ give-requires-clause-leaves g c = record {
   handed = search rules;
   latest = keeps_pulse c.args.self.now.constants c.pass.inside.seat.me.0 c.take-state.result c.post-answer.new.self c.take-state.new.seat.me c.take-state.ensures.taken c.post-answer.ensures.stamp (posted_waits c.take-state.result c.post-answer.new.self c.args.asked.phase c.args.asked.due c.args.asked.id c.args.asked.token c.args.now c.post-answer.result c.post-answer.ensures.after c.post-answer.ensures.err) c.take-state.ensures.found.asks c.post-answer.ensures.quiet.1;
   asks = (posted_waits c.take-state.result c.post-answer.new.self c.args.asked.phase c.args.asked.due c.args.asked.id c.args.asked.token c.args.now c.post-answer.result c.post-answer.ensures.after c.post-answer.ensures.err).asks c.args.self.now.constants c.take-state.ensures.found.asks;
+  wanted = posted_wanted c.args.self.now.constants c.take-state.result c.post-answer.new.self c.take-state.ensures.found.wanted c.args.asked.phase c.args.asked.due c.args.asked.id c.args.asked.token c.args.now c.post-answer.result c.take-state.ensures.found.stamped.interval (omega (arith, c.ranges.now)) c.post-answer.ensures.after c.post-answer.ensures.err;
 }
 
 pub returns : goal.returns

@@ -1,13 +1,14 @@
 use Rattle.std.proofs.Common.{rules, sym, ap, ◌∙◌, subst}
 use Rattle.choreographer.specs.Plays.{Sat, MayPulse}
 use Rattle.choreographer.specs.Known.{Pass}
-use Rattle.choreographer.specs.Turn.{AsksIfScheduled}
+use Rattle.choreographer.specs.Turn.{AsksIfScheduled, SchedulesIfWanted}
 use Rattle.choreographer.specs.declared.view.Constants.{Constants}
 use Rattle.choreographer.proofs.ByTurn.{turned, may_pulse, same_key}
 use Rattle.choreographer.proofs.Quiet.{grows_prefix}
 use Rattle.choreographer.proofs.Latest.{pulse_gets, pulse_comes_after}
 use Rattle.choreographer.proofs.Stamps.{stamped_pulse}
 use Rattle.choreographer.proofs.Waits.{pulsed_asks}
+use Rattle.choreographer.proofs.Wanting.{pulsed_wanted, pulse_wanted}
 use Rattle.choreographer.proofs.Pulsing.{pulse_awaits}
 use Rattle.choreographer.proofs.table.Choreographer.pulse_turn.Goals as goal
 
@@ -21,6 +22,7 @@ give-requires-clause-leaves g c = record {
       (may_pulse c.args.self.now.constants c.pass.inside.seat.me.0 c.take-state.result c.deliver-pulse.new.self c.take-state.new.seat.me.0.heard c.pass.inside.number c.pass.invariant.2
       (λ n named. ap (λ (p : Pass). p.number) c.pass.view_is ∙ c.requires.delivers n named));
   asks = pulsed_asks c.take-state.result c.deliver-pulse.new.self c.args.self.now.constants c.deliver-pulse.result c.deliver-pulse.ensures.after c.take-state.ensures.found.asks;
+  wanted = pulsed_wanted c.args.self.now.constants c.take-state.result c.deliver-pulse.new.self c.take-state.ensures.found.wanted c.args.now c.deliver-pulse.result c.deliver-pulse.ensures.pulse c.deliver-pulse.ensures.after;
 }
 
 pub returns-clause-turn : goal.returns-clause-turn
@@ -45,4 +47,7 @@ returns-clause-pulse g c =
       stamp = pulse_gets c.args.pass.now _ t.0 t.1 c.deliver-pulse.result t.2 t.4;
       awaits = pulse_awaits c.args.pass.now _ t.0 t.1 c.args.now c.deliver-pulse.result t.2
           (λ k e. subst (λ (q : Constants). AsksIfScheduled q c.take-state.result) (same_key c.args.self.now.constants k c.args.pass.now.view.constants c.requires.pass.1 e) c.take-state.ensures.found.asks) t.3 t.4;
+      wanted = pulse_wanted c.args.pass.now _ t.0 t.1 c.args.now c.deliver-pulse.result t.2
+          (λ k e. subst (λ (q : Constants). AsksIfScheduled q c.take-state.result) (same_key c.args.self.now.constants k c.args.pass.now.view.constants c.requires.pass.1 e) c.take-state.ensures.found.asks)
+          (λ k e. subst (λ (q : Constants). SchedulesIfWanted q c.take-state.result) (same_key c.args.self.now.constants k c.args.pass.now.view.constants c.requires.pass.1 e) c.take-state.ensures.found.wanted) t.3 t.4;
     }

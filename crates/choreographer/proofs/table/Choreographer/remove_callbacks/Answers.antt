@@ -3,6 +3,7 @@ use Rattle.choreographer.proofs.ByTurn.{turned, keeps_pulse}
 use Rattle.choreographer.proofs.Quiet.{grows_prefix}
 use Rattle.choreographer.proofs.Stamps.{stamped_removed}
 use Rattle.choreographer.proofs.Waits.{removed_waits}
+use Rattle.choreographer.proofs.Wanting.{removed_wanted}
 use Rattle.choreographer.proofs.table.Choreographer.remove_callbacks.Goals as goal
 
 pub give-requires-clause-leaves : goal.give-requires-clause-leaves
@@ -14,6 +15,7 @@ give-requires-clause-leaves g c = record {
   handed = search rules;
   latest = keeps_pulse c.args.self.now.constants c.pass.inside.seat.me.0 c.take-state.result c.remove-answer.new.self c.take-state.new.seat.me c.take-state.ensures.taken c.remove-answer.ensures.stamp (removed_waits c.take-state.result c.remove-answer.new.self c.args.phase c.args.id c.args.token c.remove-answer.result c.remove-answer.ensures.after c.remove-answer.ensures.err) c.take-state.ensures.found.asks c.remove-answer.ensures.quiet.1;
   asks = (removed_waits c.take-state.result c.remove-answer.new.self c.args.phase c.args.id c.args.token c.remove-answer.result c.remove-answer.ensures.after c.remove-answer.ensures.err).asks c.args.self.now.constants c.take-state.ensures.found.asks;
+  wanted = removed_wanted c.args.self.now.constants c.take-state.result c.remove-answer.new.self c.take-state.ensures.found.wanted c.args.phase c.args.id c.args.token c.remove-answer.result c.remove-answer.ensures.after c.remove-answer.ensures.err;
 }
 
 pub returns : goal.returns

@@ -8,6 +8,7 @@ use Rattle.choreographer.proofs.Stamps.{stamped_sealed}
 use Rattle.choreographer.specs.Frame.{GrowsQuietly}
 use Rattle.choreographer.proofs.Quiet.{grows_self}
 use Rattle.choreographer.proofs.Waits.{sealed_waits}
+use Rattle.choreographer.proofs.Wanting.{sealed_wanted}
 use Rattle.choreographer.proofs.table.Choreographer.seal.Goals as goal
 
 pub give-requires-clause-leaves : goal.give-requires-clause-leaves
@@ -21,6 +22,7 @@ give-requires-clause-leaves g c = record {
   latest = keeps_pulse c.args.self.now.constants c.pass.inside.seat.me.0 c.take-state.result c.seal-answer.new.self c.take-state.new.seat.me c.take-state.ensures.taken c.seal-answer.ensures.stamp (sealed_waits c.take-state.result c.seal-answer.new.self c.seal-answer.result c.seal-answer.ensures.seals) c.take-state.ensures.found.asks
       (subst (GrowsQuietly c.take-state.result.frames.entries) (sym c.seal-answer.ensures.quiet.1) (grows_self c.take-state.result.frames.entries));
   asks = (sealed_waits c.take-state.result c.seal-answer.new.self c.seal-answer.result c.seal-answer.ensures.seals).asks c.args.self.now.constants c.take-state.ensures.found.asks;
+  wanted = sealed_wanted c.args.self.now.constants c.take-state.result c.seal-answer.new.self c.take-state.ensures.found.wanted c.seal-answer.result c.seal-answer.ensures.seals c.seal-answer.ensures.stamp;
 }
 
 pub returns : goal.returns

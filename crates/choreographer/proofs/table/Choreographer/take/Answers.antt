@@ -4,7 +4,7 @@ use Rattle.choreographer.specs.declared.state.StampedFrames.{StampedFrames}
 use Rattle.choreographer.specs.declared.view.Constants.{Constants}
 use Rattle.choreographer.specs.declared.view.View.{View}
 use Rattle.choreographer.specs.Plays.{Sat, FoundSealed, FoundPulse, FoundHeard}
-use Rattle.choreographer.specs.Turn.{taking, AsksIfScheduled}
+use Rattle.choreographer.specs.Turn.{taking, AsksIfScheduled, SchedulesIfWanted}
 use Rattle.choreographer.specs.Known.{HasOwn}
 use Rattle.choreographer.proofs.Heard.{own_taken}
 use Rattle.choreographer.proofs.Turns.{takes_turn}
@@ -55,4 +55,5 @@ returns-then-compare_exchange-eq0-clause-found g c =
       heard = subst (λ (z : View × StampedFrames × View). FoundHeard z.0 z.1 z.2.heard) (λ i. ((at i).0, same i, moved i)) won.6;
       latest = subst (λ (z : StampedFrames × View). FoundPulse key z.1 z.0) (λ i. (same i, (at i).0)) (won.7 key mine);
       asks = subst (AsksIfScheduled key) same (won.8 key mine);
+      wanted = subst (SchedulesIfWanted key) same (won.9 key mine);
     }

@@ -4,6 +4,7 @@ use Rattle.choreographer.specs.Known.{Pass}
 use Rattle.choreographer.proofs.ByTurn.{turned, may_pulse}
 use Rattle.choreographer.proofs.Stamps.{stamped_take}
 use Rattle.choreographer.proofs.Waits.{taken_waits}
+use Rattle.choreographer.proofs.Wanting.{taken_wanted}
 use Rattle.choreographer.proofs.table.Choreographer.take_turn.Goals as goal
 
 pub give-requires-clause-leaves : goal.give-requires-clause-leaves
@@ -15,6 +16,7 @@ give-requires-clause-leaves g c = record {
       (may_pulse c.args.self.now.constants c.pass.inside.seat.me.0 c.take-state.result c.take-answer.new.self c.take-state.new.seat.me.0.heard c.pass.inside.number c.pass.invariant.2
       (λ n named. ap (λ (p : Pass). p.number) c.pass.view_is ∙ c.requires.delivers n named));
   asks = (taken_waits c.take-state.result c.take-answer.new.self c.args.phase c.args.now c.take-answer.result c.take-answer.ensures.takes).asks c.args.self.now.constants c.take-state.ensures.found.asks;
+  wanted = taken_wanted c.args.self.now.constants c.take-state.result c.take-answer.new.self c.take-state.ensures.found.wanted c.args.phase c.args.now c.take-answer.result c.take-answer.ensures.takes c.take-answer.ensures.stamp;
 }
 
 pub returns : goal.returns

@@ -55,6 +55,7 @@ returns-clause-next g c =
       asked = comes_as_asked before c.deliver-pulse.new.pass _ _ _ c.deliver-pulse.result c.deliver-pulse.ensures.pulse;
       got = gets_latest before c.deliver-pulse.new.pass (stamp_in c.deliver-pulse.result) c.deliver-pulse.ensures.pass c.deliver-pulse.ensures.latest.stamp c.deliver-pulse.ensures.latest.awaits;
       quiet = pulse_quiet before c.deliver-pulse.new.pass (λ n. n == nanos_of c.host-host.result.uptime.now.now) _ _ c.deliver-pulse.result c.deliver-pulse.ensures.pulse;
+      wanted = c.deliver-pulse.ensures.latest.wanted;
       waits = pulse_waits c.deliver-pulse.result c.args.parts.now.awaits c.is_some.result c.is_some.ensures;
     }
 
