@@ -27,7 +27,7 @@ use Rattle.run_model.specs.Loopers.{pulse_stamp}
 use Rattle.loop_model.specs.declared.journal.Route.{Route}
 use Rattle.frame_phases.specs.declared.entry.FrameEntry.{FrameEntry}
 use Rattle.frame_phases.specs.Frames.{is_pulse}
-use Rattle.frame_phases.specs.Wanted.{is_wanted_if_any}
+use Rattle.choreographer.specs.Calls.{is_wanted_if_any}
 use Rattle.frame_phases.specs.Pulses.{is_pulse_if_any, comes_after, comes_after_if_any}
 use Rattle.dash_script.specs.declared.script.Script.{Script}
 use Rattle.dash_script.specs.Causes.{phase_count}
@@ -39,8 +39,8 @@ use Rattle.run_model.specs.Control.{At}
 use Rattle.run_model.specs.Planned.{Makes, bare_call, token_in, AreFor, sender_count}
 use Rattle.run_model.specs.AskedSoFar.{tokens_in}
 use Rattle.run_model.specs.Loopers.{LooperState, SentCall, first_looper, starts_frame, after_dispatch, and_takes, dispatched, after_act, MayDispatch, ActsLead, IsSent}
-use Rattle.run_model.specs.Parts.{and_starts, running, sent_on, is_run_then, is_whole, asks_to_run}
-use Rattle.run_model.specs.FrameRecords.{FrameAt, is_begin, was_wanted, past_before_frame, nanos_of, frame_ids, is_frame_from, has_stamp, place_after, frames_after, are_run_then, are_whole, FrameAsk, Runs, as_told}
+use Rattle.run_model.specs.Parts.{and_starts, running, sent_on, is_run_then, is_whole, asks_to_run, past_before_frame}
+use Rattle.run_model.specs.FrameRecords.{FrameAt, is_begin, was_wanted, nanos_of, frame_ids, is_frame_from, has_stamp, place_after, frames_after, are_run_then, are_whole, FrameAsk, Runs, as_told}
 use Rattle.run_model.proofs.RunLaws.{AreFor-snoc, ActsLead-snoc, ArePaints, ActsLead-paints}
 use Rattle.run_model.proofs.Growth.{ActsLead-entries, post_at-grows}
 use Rattle.choreographer.specs.Calls.{latest_stamp}

@@ -10,10 +10,12 @@ use Rattle.std.proofs.lemmas.List.Folds.{list_any-append}
 use mathlib.Core.List.{IsPrefix}
 use Rattle.frame_phases.specs.declared.entry.FrameEntry.{FrameEntry}
 use Rattle.frame_phases.specs.declared.entry.FrameEntry.TheVariants.{Posted, Removed, Begin, Take, Ran}
-use Rattle.frame_phases.specs.Wanted.{wanted_by, is_wanted_if_any}
+use Rattle.frame_phases.specs.Pulses.{wanted_by}
+use Rattle.choreographer.specs.Calls.{is_wanted_if_any}
 use Rattle.frame_phases.proofs.Wanted.{NoneBegins, wanted_on}
 use Rattle.choreographer.specs.Frame.{begin_place, IsQuiet, GrowsQuietly}
-use Rattle.run_model.specs.FrameRecords.{is_begin, past_before_frame}
+use Rattle.run_model.specs.FrameRecords.{is_begin}
+use Rattle.run_model.specs.Parts.{past_before_frame}
 use Rattle.run_model.proofs.FrameKeeping.{before_first-step}
 
 quiet_none : (es : List FrameEntry) → IsQuiet es → list_any is_begin es ≡ false

@@ -1,9 +1,9 @@
--- When pulses come.
-use Rattle.std.specs.Prelude.{ℕ, ◌+◌, ◌-◌, ◌*◌, ◌/◌, ◌^◌, ◌==◌, ◌||◌, nat_lt, min, Bool, true, Option, Some, None, List}
-use Rattle.std.specs.List.{list_all}
+-- When pulses come, and when a frame is wanted.
+use Rattle.std.specs.Prelude.{ℕ, ◌+◌, ◌-◌, ◌*◌, ◌/◌, ◌^◌, ◌==◌, ◌||◌, nat_lt, nat_le, min, Bool, true, false, Option, Some, None, List, [], ◌∷◌}
+use Rattle.std.specs.List.{list_all, list_any}
 use Rattle.frame_phases.specs.declared.entry.FrameEntry.{FrameEntry}
 use Rattle.frame_phases.specs.declared.entry.FrameEntry.TheVariants.{Begin}
-use Rattle.frame_phases.specs.Frames.{is_pulse}
+use Rattle.frame_phases.specs.Frames.{is_pulse, live_callbacks}
 
 -- the least positive multiple of the interval that is greater than t, or the greatest u64 where it is above that
 abbrev pub pulse : ℕ → ℕ → ℕ
@@ -35,3 +35,13 @@ is_stamped interval _ = true
 -- each frame of a record begins with the stamp of a pulse, or with 0
 abbrev pub are_stamped : ℕ → List FrameEntry → Bool
 are_stamped interval entries = list_all (is_stamped interval) entries
+
+-- after these entries, from the newest to the oldest, a callback is live that is due by this millisecond
+abbrev pub wants_by : ℕ → List FrameEntry → Bool
+wants_by millis past = list_any (λ c. nat_le c.due millis) (live_callbacks past)
+
+-- at some moment since the latest Begin such a callback was live, or since the start where no frame began
+unfoldable pub wanted_by : ℕ → List FrameEntry → Bool
+wanted_by millis [] = false
+wanted_by millis (Begin v s t ∷ past) = wants_by millis past
+wanted_by millis (e ∷ past) = wants_by millis (e ∷ past) || wanted_by millis past

@@ -25,7 +25,7 @@ use Rattle.loop_model.specs.Dispatches.{act_dispatch, call_dispatch}
 use Rattle.frame_phases.specs.declared.entry.FrameEntry.{FrameEntry}
 use Rattle.frame_phases.specs.declared.entry.FrameRecord.{FrameRecord}
 use Rattle.frame_phases.specs.Pulses.{are_stamped, comes_after}
-use Rattle.frame_phases.specs.Wanted.{wanted_by}
+use Rattle.frame_phases.specs.Pulses.{wanted_by}
 use Rattle.frame_phases.specs.Frames.{lawful, is_pulse, all_allowed, is_allowed, owed_callbacks, next_phase, last_time, in_due_order, before_later, live_callbacks, posted_count}
 use Rattle.dash_script.specs.declared.script.Block.{Block}
 use Rattle.dash_script.specs.declared.script.Script.{Script}

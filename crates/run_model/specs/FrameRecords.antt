@@ -7,7 +7,7 @@ use Rattle.std.specs.List.Sorted.{IsNonDecreasingBy}
 use Rattle.frame_phases.specs.declared.entry.FrameEntry.{FrameEntry}
 use Rattle.frame_phases.specs.declared.entry.FrameEntry.TheVariants.{Posted, Begin, Take, Ran, Removed}
 use Rattle.frame_phases.specs.Parting.{AreParted}
-use Rattle.frame_phases.specs.Wanted.{wanted_by}
+use Rattle.frame_phases.specs.Pulses.{wanted_by}
 use Rattle.dash_script.specs.declared.script.Command.{Command}
 use Rattle.dash_script.specs.declared.script.Command.TheVariants.{Frame, Unframe}
 use Rattle.run_model.specs.Planned.{TimedCommand, frame_due}
@@ -44,13 +44,9 @@ abbrev pub has_stamp : List FrameEntry → Option ℕ → ℕ → Bool
 has_stamp fs None stamp = true
 has_stamp fs (Some place) stamp = option_map_or (begins_with stamp) (slice_get fs place) false
 
--- what the record had come to when the first frame from this place on was to begin, from the newest entry to the oldest
-abbrev pub past_before_frame : List FrameEntry → ℕ → List FrameEntry
-past_before_frame fs place = reverse (take place fs ++ before_first is_begin (drop place fs))
-
 -- a pulse with this stamp was wanted: since the frame before this place, and before the next one, a callback was live that is due by its millisecond
 abbrev pub was_wanted : List FrameEntry → ℕ → ℕ → Bool
-was_wanted fs place stamp = wanted_by (stamp / 1000000) (past_before_frame fs place)
+was_wanted fs place stamp = wanted_by (stamp / 1000000) (reverse (take place fs ++ before_first is_begin (drop place fs)))
 
 -- a frame that a dispatch ran: where it begins in the record, and the dispatch's time; one more, where a dispatch runs one; and where the next may begin
 pub record FrameAt : Type 0 where

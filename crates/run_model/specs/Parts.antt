@@ -1,7 +1,7 @@
 -- Parts of the definitions of a run, which are written out there, by the names that proofs and the contracts of the crates above use.
 use Rattle.std.specs.Prelude.{ℕ, ◌==◌, Bool, true, ◌&&◌, ◌||◌, not, nat_lt, List, [], ◌∷◌, Option, count_by, if◌then◌else◌, ◌≡◌, map, ◌+◌, length, filter}
-use Rattle.std.specs.Prelude.{codes, slice_get, false}
-use Rattle.std.specs.List.{list_any, list_all, range_with_len}
+use Rattle.std.specs.Prelude.{codes, slice_get, false, take, drop, reverse}
+use Rattle.std.specs.List.{list_any, list_all, range_with_len, before_first}
 use Rattle.std.specs.Fmt.{decimal}
 use Rattle.std.specs.Option.{option_map_or}
 use Rattle.loop_model.specs.declared.entry.Entry.{Entry}
@@ -15,7 +15,7 @@ use Rattle.frame_phases.specs.declared.entry.FrameEntry.{FrameEntry}
 use Rattle.dash_script.specs.declared.script.Script.{Script}
 use Rattle.dash_script.specs.declared.script.Block.{Block}
 use Rattle.run_model.specs.Control.{is_call_in_time, is_quit, is_advance, is_fresh, befores_from, befores, Before, InBlock, are_on_time, are_before_quit}
-use Rattle.run_model.specs.FrameRecords.{FrameAt, frame_moments, nanos_of, place_after, frames_after, FrameAsk, Runs}
+use Rattle.run_model.specs.FrameRecords.{FrameAt, is_begin, frame_moments, nanos_of, place_after, frames_after, FrameAsk, Runs}
 use Rattle.run_model.specs.Loopers.{LooperState, GaugeState, SentCall, starts_frame, gauge_moved}
 use Rattle.run_model.specs.Planned.{TimedCommand, IsPlanned, lines_on, lines_of, labels_on, history_of, AreFor, controller, entries_by, times_on}
 use Rattle.run_model.specs.Text.{post_subject}
@@ -69,6 +69,10 @@ is_run_then fs x = list_all (λ n. n == nanos_of x.now) (frame_moments fs x.plac
 -- whether the frame has its start and all its phases
 abbrev pub is_whole : ℕ → List FrameEntry → FrameAt → Bool
 is_whole phases fs x = length (frame_moments fs x.place) == phases + 1
+
+-- what the record had come to when the first frame from this place on was to begin, from the newest entry to the oldest
+abbrev pub past_before_frame : List FrameEntry → ℕ → List FrameEntry
+past_before_frame fs place = reverse (take place fs ++ before_first is_begin (drop place fs))
 
 -- a looper whose dispatch begins: nothing is painted yet, and the frame that it runs, where it runs one, is the latest
 abbrev pub running : Option ℕ → ℕ → LooperState → LooperState

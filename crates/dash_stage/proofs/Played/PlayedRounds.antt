@@ -305,10 +305,10 @@ module _ (s : Script) (text : HasText s) (st : Stage) (ls : List StageLooper) (s
       comes_on =
           let one = loopers.1 k l in_ran in
           let mine : sender ≡ ran.sender = ap (λ (n : ℕ). s.threads + n) (sym one.1) ∙ sym one.0.sender in (
-          subst (λ (o : Option Parts). IsSomeAnd o (λ parts. Stands s ran.number ran.sender ran.looper.held.poster.view.seen ran.looper.held.journal.acts parts came.state)) (sym (went played).1)
-          (subst (λ (n : ℕ). Stands s n ran.sender ran.looper.held.poster.view.seen ran.looper.held.journal.acts (went played).0 came.state) (sym one.1)
-          (subst (λ (n : ℕ). Stands s k n ran.looper.held.poster.view.seen ran.looper.held.journal.acts (went played).0 came.state) mine came.stands)),
-          came.first,
+            subst (λ (o : Option Parts). IsSomeAnd o (λ parts. Stands s ran.number ran.sender ran.looper.held.poster.view.seen ran.looper.held.journal.acts parts came.state)) (sym (went played).1)
+                (subst (λ (n : ℕ). Stands s n ran.sender ran.looper.held.poster.view.seen ran.looper.held.journal.acts (went played).0 came.state) (sym one.1)
+                (subst (λ (n : ℕ). Stands s k n ran.looper.held.poster.view.seen ran.looper.held.journal.acts (went played).0 came.state) mine came.stands)),
+            came.first,
           )
 
       comes_left : StandsBetweenRounds s left came.state
