@@ -443,9 +443,9 @@ no_times : (P : ℕ × ℕ → Type 0) (ms : List Move) → ms ≡ [] → AllByR
 no_times P ms is = subst (λ (l : List Move). AllByRecursion P (enumerate_from 0 (move_times l))) (sym is) tt
 
 -- queues of which none was moved were moved together
-none_moved : (s : Script) (all : List (List Move)) → ((q : ℕ) (d : List Move) → q < length all → slice_index_or all q d ≡ []) → AreMovedTogether s all
-none_moved s [] none = record { due = tt; together = tt }
-none_moved s (ms ∷ all) none = record {
+none_together : (s : Script) (all : List (List Move)) → ((q : ℕ) (d : List Move) → q < length all → slice_index_or all q d ≡ []) → AreMovedTogether s all
+none_together s [] none = record { due = tt; together = tt }
+none_together s (ms ∷ all) none = record {
   due = no_times (λ (p : ℕ × ℕ). MayMoveTo s (ms ∷ all) p.0 p.1) ms (none 0 ms (omega arith));
   together = All_recursive (λ (l : List Move). IsPrefix (move_times l) (move_times ms)) (ms ∷ all) (λ q d lt. subst (λ (l : List Move). IsPrefix (move_times l) (move_times ms)) (sym (none q d lt)) (move_times ms, refl));
 }
@@ -459,7 +459,7 @@ moved_at_start s c unseen sound =
     let d = some_of c.kit.posters.items q lt in
     moves_at s c q d e lt ∙ none q d lt in
     record {
-      together = none_moved s (moves_by s c) each;
+      together = none_together s (moves_by s c) each;
       going = λ q d lt going.
           let some : 0 < length (moves_by s c) = (let many = moves_count s c in omega (arith, lt, many)) in
           ap move_times (none q d lt) ∙ sym (ap move_times (sym (main_at (moves_by s c) [] some) ∙ each 0 [] some));
