@@ -1,6 +1,6 @@
 -- Parts of the definitions of a run, which are written out there, by the names that proofs and the contracts of the crates above use.
 use Rattle.std.specs.Prelude.{ℕ, ◌==◌, Bool, true, ◌&&◌, ◌||◌, not, nat_lt, List, [], ◌∷◌, Option, count_by, if◌then◌else◌, ◌≡◌, map, ◌+◌, length, filter}
-use Rattle.std.specs.Prelude.{codes, slice_get, false, take, drop, reverse}
+use Rattle.std.specs.Prelude.{codes, slice_get, false, take, drop, reverse, ◌++◌}
 use Rattle.std.specs.List.{list_any, list_all, range_with_len, before_first}
 use Rattle.std.specs.Fmt.{decimal}
 use Rattle.std.specs.Option.{option_map_or}
