@@ -1,7 +1,7 @@
 -- No pulse is told behind a dispatch of its own millisecond: how a pulse and a dispatch keep that.
-use Rattle.std.proofs.Common.{◌≡◌, ℕ, ◌<◌, ◌≤◌, ◌⊎◌, inl, inr, Bool, true, List, [], ◌∷◌, ◌++◌, Option, Some, None, refl, sym, ap, ◌∙◌, subst, arith}
+use Rattle.std.proofs.Common.{◌≡◌, ℕ, ◌<◌, ◌≤◌, ◌⊎◌, inl, inr, true, List, [], ◌∷◌, ◌++◌, Option, Some, None, refl, sym, ◌∙◌, subst, arith}
 use Rattle.std.specs.Prelude.{nat_le, nat_lt}
-use Rattle.std.specs.List.{filter_map, list_all}
+use Rattle.std.specs.List.{list_all}
 use Rattle.std.proofs.lemmas.Bool.{and_parts, and_from, lt-ltb, leb-true, le-leb}
 use Rattle.std.proofs.lemmas.List.{append-nil}
 use Rattle.loop_model.specs.declared.journal.Act.{Act}
@@ -9,7 +9,7 @@ use Rattle.loop_model.specs.declared.journal.Act.TheVariants.{Dispatch, Idle, Ev
 use Rattle.loop_model.specs.declared.journal.Route.{Route}
 use Rattle.loop_model.specs.Dispatches.{dispatches}
 use Rattle.run_model.specs.FrameRecords.{millis_up}
-use Rattle.run_model.specs.Loopers.{pulses_are_later, pulses_come_first}
+use Rattle.run_model.specs.Loopers.{pulses_are_later}
 use Rattle.run_model.proofs.RunLaws.{ArePaints}
 use Rattle.dash_loopers.specs.Played.{pulse_acts}
 use Rattle.dash_loopers.proofs.PulsesOnTime.{ComesThen}

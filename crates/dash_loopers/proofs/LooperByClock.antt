@@ -1,11 +1,7 @@
 -- In a loop by a clock a looper goes on from where it stood: what keeps that it has.
-use Rattle.std.proofs.Common.{◌≡◌, ℕ, Bool, true, false, List, [], ◌∷◌, ◌++◌, Some, None, refl, sym, ap, ◌∙◌, subst, arith}
-use Rattle.std.specs.Prelude.{◌==◌, ◌||◌, is_some, Result, Ok, Err, is_ok, OnOk}
-use Rattle.std.specs.Option.{option_map_or}
+use Rattle.std.proofs.Common.{◌≡◌, ℕ, Bool, true, false, List, [], ◌∷◌, ◌++◌, Some, None, refl, sym, ap, ◌∙◌, subst}
+use Rattle.std.specs.Prelude.{◌==◌, Result, Ok, Err, is_ok, OnOk}
 use Rattle.loop_model.specs.declared.post.Post.{Post as PostData}
-use Rattle.loop_model.specs.declared.item.Item.{Item}
-use Rattle.loop_model.specs.declared.item.Item.TheVariants.{Post as Message, Barrier as SyncBarrier}
-use Rattle.message_slot.specs.Fields.{handler_of, obj_of}
 use Rattle.shared_queue.specs.Known.{IsSamePoster}
 use Rattle.loop_model.specs.declared.entry.Entry.{Entry}
 use Rattle.loop_model.specs.declared.journal.Act.{Act}

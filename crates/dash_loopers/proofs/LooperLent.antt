@@ -9,12 +9,10 @@ use Rattle.loop_model.specs.declared.journal.Act.{Act}
 use Rattle.loop_model.specs.declared.journal.Journal.{Journal}
 use Rattle.message_pool.specs.Passes.{Tally}
 use Rattle.shared_queue.specs.Known.{Shared}
-use Rattle.looper_run.specs.declared.dispatcher.Did.{Did}
-use Rattle.looper_run.specs.declared.dispatcher.Did.TheVariants.{Yes, No, NoMemory}
 use Rattle.looper_run.specs.Holding.{KeptOwn as Own}
 use Rattle.looper_run.specs.Acts.{IsOfDispatcher, GrowsBy}
 use Rattle.looper_run.specs.Holding.{Sender, Holding, IsSameOwn}
-use Rattle.looper_run.specs.Tests.{IsLent, Unless, Intercepts}
+use Rattle.looper_run.specs.Tests.{IsLent}
 use Rattle.looper_run.proofs.Working.{behind}
 use Rattle.dash_hall.specs.declared.hall.Hall.{Hall}
 use Rattle.dash_hall.specs.Growth.{GoesOn}

@@ -11,8 +11,8 @@ use Rattle.looper_run.specs.declared.looper.Round.{Round}
 use Rattle.looper_run.specs.Asked.{Listening, any_heard}
 use Rattle.looper_run.specs.Holding.{Looping, Workplace}
 use Rattle.looper_run.specs.Looks.{IsRound}
-use Rattle.looper_run.specs.Loops.{IsStill, IsLoop, LoopBy, AreLooksBy, UnlessLost, has_ended_looper as ends}
-use Rattle.looper_run.specs.Round.{RoundBy, UnlessWanting, is_ended}
+use Rattle.looper_run.specs.Loops.{IsStill, IsLoop, LoopBy, AreLooksBy, has_ended_looper as ends}
+use Rattle.looper_run.specs.Round.{RoundBy, is_ended}
 use Rattle.looper_run.specs.Tests.{IsSameLooper}
 use Rattle.dash_script.specs.declared.script.Script.{Script}
 use Rattle.run_model.specs.Moments.{Mode}
@@ -28,8 +28,7 @@ use Rattle.dash_loopers.specs.Clocked.{ClockOwner, ServesFree, IsPlayingAt, Stay
 use Rattle.dash_loopers.specs.Looped.{HasLooped, GoesOnFrom, looper_with_parts, owner_of}
 use Rattle.dash_loopers.proofs.LooperPlaces.{are_parts_then}
 use Rattle.dash_loopers.proofs.LooperKits.{looper_of, looper_then, looper_with}
-use Rattle.dash_loopers.proofs.LooperPlayed.{unless}
-use Rattle.dash_loopers.proofs.LooperLoops.{looper_by_loop, played_by, unless_lost, worked}
+use Rattle.dash_loopers.proofs.LooperLoops.{looper_by_loop, played_by, worked}
 use Rattle.dash_loopers.proofs.LooperMoments.{own_by_clock, stays_by_clock, setting_free, looks_by, round_worked}
 use Rattle.dash_loopers.proofs.LooperNext.{looper_within}
 

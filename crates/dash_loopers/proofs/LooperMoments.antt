@@ -33,7 +33,7 @@ use Rattle.looper_run.specs.Holding.{Sender, Holding, Looping, workplace}
 use Rattle.looper_run.specs.Acts.{moment_on, IsLookAt, AreLooksAt}
 use Rattle.looper_run.specs.Loops.{IsLookBy, AreLooksBy}
 use Rattle.looper_run.proofs.Working.{lent_self}
-use Rattle.looper_run.specs.Tests.{Passes, PassesWith, IsLent, HasTakenMessage, Unless, Intercepts}
+use Rattle.looper_run.specs.Tests.{Passes, PassesWith, IsLent, HasTakenMessage, Unless}
 use Rattle.dash_script.specs.declared.script.Script.{Script}
 use Rattle.run_model.specs.Moments.{Mode, IsMomentOf, IsOfClock, AreOfClockAfter}
 use Rattle.run_model.specs.ByClock.{in_free_mode}

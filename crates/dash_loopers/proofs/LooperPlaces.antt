@@ -9,9 +9,7 @@ use Rattle.atomic_table.specs.Seated.{TableId}
 use Rattle.dash_script.specs.declared.script.Script.{Script}
 use Rattle.dash_script.specs.Causes.{phase_count}
 use Rattle.shared_queue.specs.Known.{Shared, IsOf}
-use Rattle.looper_run.specs.Holding.{Sender, Holding, Workplace, workplace}
-use Rattle.looper_run.specs.Tests.{IsSameLooper}
-use Rattle.looper_run.proofs.Steps.{workplace_same}
+use Rattle.looper_run.specs.Holding.{Sender, Workplace}
 use Rattle.choreographer.specs.Known.{SharedFrames, Pass, IsPassOf, MayDeliver, IfAlone}
 use Rattle.dash_hall.specs.declared.hall.Hall.{Hall}
 use Rattle.dash_loopers.specs.declared.player.Parts.{Parts}

@@ -1,7 +1,7 @@
 -- In a round a looper goes on from where it stood: what keeps that it has, and what a round leaves of it.
 use Rattle.choreographer.proofs.Quiet.{grows_self}
 use Rattle.dash_loopers.proofs.LatestPulses.{still_in_time}
-use Rattle.std.proofs.Common.{◌≡◌, ℕ, ◌<◌, ◌≤◌, ◌⊎◌, inl, inr, max, true, false, List, [], ◌∷◌, ◌++◌, Option, Some, None, refl, sym, ap, ◌∙◌, subst, arith, append_assoc}
+use Rattle.std.proofs.Common.{◌≡◌, ℕ, ◌<◌, ◌≤◌, ◌⊎◌, inl, max, true, false, List, [], ◌∷◌, ◌++◌, Option, Some, None, refl, sym, ap, ◌∙◌, subst, arith, append_assoc}
 use Rattle.std.specs.Prelude.{◌==◌, Bool, Result, Ok, Err, is_ok, OnOk, is_some, not, ◌&&◌}
 use Rattle.std.specs.List.{AllByRecursion, Contains}
 use Rattle.std.specs.Option.{IsSomeAnd}
