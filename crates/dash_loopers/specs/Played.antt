@@ -212,7 +212,8 @@ BeginsNoneBehind before after frame =
     IfAlone before ((first : ℕ) → first ≤ length before.view.seen → BeginsNoneFrom first before → BeginsNoneFrom (place_after first frame) after)
 
 -- a pulse of this period came, as it was asked for, later than the latest, whose frame was not to begin any more, and is the latest now; or none came. Where
--- the pass alone delivers pulses, one was wanted since the latest frame. What the pass has come to see since, where it alone delivers pulses, are postings and removals. The looper awaits its frame where one came, and else as before
+-- the pass alone delivers pulses, one was wanted since the latest frame, and what the pass has come to see since are postings and removals. The looper awaits
+-- its frame where one came, and else as before
 pub record IsNextPulse (period : ℕ) (before after : Parts) (came : Option ℕ) : Type 0 where
   pub is_pulse : is_pulse_if_any period came ≡ true
   pub later : ComesLater before.frames came
@@ -240,8 +241,8 @@ asks_for (Some place) start = Runs start ∷ []
 
 -- callbacks of these identities ran, of a frame whose beginning the pass has seen, or of none, and the pass asked for that frame, by its start, and for nothing
 -- else; its moments pass the test, and it began with the stamp of the latest pulse. Where the test is of one moment alone, and the
--- pass, which alone delivers pulses, had seen no later one, it has seen none still, and a frame that was to begin and is to begin no more began. It has seen none begin behind
--- that frame
+-- pass, which alone delivers pulses, had seen no later one, it has seen none still, and a frame that was to begin and is to begin no more began. It has seen
+-- none begin behind that frame
 pub record RanFrame (interval phases : ℕ) (is_moment : ℕ → Bool) (before after : Pass) (ids : List ℕ) : Type 0 where
   pub frame : Option ℕ
   pub start : ℕ

@@ -225,8 +225,8 @@ module _ (s : Script) (q now : ℕ) where
 
   module _ (began : StageLooper) where
     -- another sender's entry
-    pub playing_others : (d k : ℕ) (es : List Entry) (e : Entry) (acts : List Act) (parts : Parts) → (e.sender ≡ k → ⊥) → IsPlaying s q now began d k es acts parts
-        → IsPlaying s q now began d k (es ++ e ∷ []) acts parts
+    pub playing_others : (d k : ℕ) (es : List Entry) (e : Entry) (acts : List Act) (parts : Parts) → (e.sender ≡ k → ⊥)
+        → IsPlaying s q now began d k es acts parts → IsPlaying s q now began d k (es ++ e ∷ []) acts parts
     playing_others d k es e acts parts apart meets = λ text a come.
         let c = meets text a come in
         comes_on a d d k began.looper.held.poster.view.seen es (e ∷ []) acts acts parts parts c c.state c.first
@@ -247,7 +247,14 @@ module _ (s : Script) (q now : ℕ) where
         → IsPlaying s q now began d k es (acts ++ x ∷ []) parts
     playing_quiet d k es x acts parts is meets = λ text a come.
         let c = meets text a come in
-        record { state = c.state; stands = stands_quiet s q k es x acts parts c.state c.state is c.stands; looks = c.looks; saw = c.saw; on = c.on; first = tells_quiet d acts x is c.first }
+        record {
+          state = c.state;
+          stands = stands_quiet s q k es x acts parts c.state c.state is c.stands;
+          looks = c.looks;
+          saw = c.saw;
+          on = c.on;
+          first = tells_quiet d acts x is c.first;
+        }
 
 -- ---- the laws by a clock
 

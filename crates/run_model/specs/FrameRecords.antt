@@ -1,6 +1,6 @@
 -- A choreographer's record: its frames with the callbacks and the moments of each, and what the senders of a run asked for, and when.
-use Rattle.std.specs.Prelude.{ℕ, ◌+◌, ◌-◌, ◌*◌, ◌^◌, ◌==◌, min, Bool, true, false, ◌&&◌, nat_le, List, [], ◌∷◌, ◌++◌, Option, Some, None, take, drop, slice_get, reverse}
-use Rattle.std.specs.Prelude.{length, map, if◌then◌else◌, ◌≡◌, ◌/◌}
+use Rattle.std.specs.Prelude.{ℕ, ◌+◌, ◌-◌, ◌*◌, ◌^◌, ◌==◌, min, Bool, true, false, ◌&&◌, nat_le, List, [], ◌∷◌, ◌++◌, Option, Some, None, take, drop, slice_get}
+use Rattle.std.specs.Prelude.{reverse, length, map, if◌then◌else◌, ◌≡◌, ◌/◌}
 use Rattle.std.specs.List.{filter_map, before_first, list_all}
 use Rattle.std.specs.Option.{option_map_or, option_map}
 use Rattle.std.specs.List.Sorted.{IsNonDecreasingBy}

@@ -17,8 +17,8 @@ use Rattle.frame_phases.specs.Frames.{is_pulse}
 use Rattle.frame_phases.specs.Pulses.{comes_after}
 use Rattle.dash_script.specs.declared.script.Rule.{Rule}
 use Rattle.dash_script.specs.declared.script.Script.{Script}
-use Rattle.run_model.specs.FrameRecords.{TimedAsk, asked_in_rounds, lines_ask_then, millis_up, FrameAsk, Posts, FrameAt, frame_ids, is_frame_from, has_stamp, was_wanted}
-use Rattle.run_model.specs.FrameRecords.{place_after, frames_after, Runs, nanos_of}
+use Rattle.run_model.specs.FrameRecords.{TimedAsk, asked_in_rounds, lines_ask_then, millis_up, FrameAsk, Posts, FrameAt, frame_ids, is_frame_from, has_stamp}
+use Rattle.run_model.specs.FrameRecords.{was_wanted, place_after, frames_after, Runs, nanos_of}
 use Rattle.run_model.specs.Planned.{Ask, Makes, Unbars, bare_call, call_of, looper_of, gauge_line, gauge_looper, frame_handler, animation_id, animation_phase}
 use Rattle.run_model.specs.Planned.{traversal_id, traversal_phase, sent_by, frame_due, frame_message, lines_of}
 use Rattle.run_model.specs.Control.{Timing, At, Exactly, AnyTime}
