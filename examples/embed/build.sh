@@ -45,8 +45,8 @@ made() {
         exit 1
     }
 }
-made message_queue_c loop_model message_slot message_list when_queue queue_state
-made frame_phases_c loop_model frame_phases
+made message_queue_c loop_model heap_value message_slot message_list when_queue queue_state
+made frame_phases_c loop_model heap_value frame_phases
 made loop_next_c
 made countdown_c countdown
 made animator_c countdown animator
