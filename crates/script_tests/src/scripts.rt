@@ -237,11 +237,10 @@ fn printed<R: AllocGlobal>(rt: &R, text: &[u8], up: bool) -> Result<Vec<u8>, Fai
     let Parsed::Ok(script) = parse(rt.alloc(), text) else {
         return Err(Fail::from("no script"));
     };
-    let script = if up {
-        migrate(rt.alloc(), &script).ok().ok_or("no memory")?
-    } else {
-        script
-    };
+    if up {
+        let script = migrate(rt.alloc(), &script).ok().ok_or("no memory")?;
+        return Ok(print(rt.alloc(), &script).ok().ok_or("no memory")?);
+    }
     Ok(print(rt.alloc(), &script).ok().ok_or("no memory")?)
 }
 
