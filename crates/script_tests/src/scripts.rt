@@ -238,7 +238,9 @@ fn printed<R: AllocGlobal>(rt: &R, text: &[u8], up: bool) -> Result<Vec<u8>, Fai
         return Err(Fail::from("no script"));
     };
     if up {
-        let script = migrate(rt.alloc(), &script).ok().ok_or("no memory")?;
+        let Ok(script) = migrate(rt.alloc(), &script) else {
+            return Err(Fail::from("no memory"));
+        };
         return Ok(print(rt.alloc(), &script).ok().ok_or("no memory")?);
     }
     Ok(print(rt.alloc(), &script).ok().ok_or("no memory")?)
