@@ -28,7 +28,7 @@ use Rattle.choreographer.proofs.Recorded.{pulse_leaves, due_leaves}
 -- ---- what a turn comes to see
 
 -- what the pass had seen, postings and removals of others, and what it recorded itself
-turn_sees : (before after : Pass) (x y : StampedFrames) (more : List FrameEntry) → IsFrameTurn before after x y → x.frames.entries ++ more ≡ y.frames.entries
+pub turn_sees : (before after : Pass) (x y : StampedFrames) (more : List FrameEntry) → IsFrameTurn before after x y → x.frames.entries ++ more ≡ y.frames.entries
     → IfAlone before ((others : List FrameEntry) × (before.view.seen ++ (others ++ more) ≡ after.view.seen) × IsQuiet others)
 turn_sees before after x y more turn is = λ c e named.
     let h = turn.hears in
@@ -97,7 +97,7 @@ later_then t u (e ∷ es) le none =
 abbrev pub StaysUpTo : ℕ → Pass → Pass → Type 0
 StaysUpTo t before after = IfAlone before (has_later t before.view.seen ≡ false → has_later t after.view.seen ≡ false)
 
-turn_up_to : (t : ℕ) (before after : Pass) (x y : StampedFrames) (more : List FrameEntry) → IsFrameTurn before after x y → x.frames.entries ++ more ≡ y.frames.entries → has_later t more ≡ false → StaysUpTo t before after
+pub turn_up_to : (t : ℕ) (before after : Pass) (x y : StampedFrames) (more : List FrameEntry) → IsFrameTurn before after x y → x.frames.entries ++ more ≡ y.frames.entries → has_later t more ≡ false → StaysUpTo t before after
 turn_up_to t before after x y more turn is none = λ c e named was.
     let s = turn_sees before after x y more turn is c e named in
     subst (λ (l : List FrameEntry). has_later t l ≡ false) s.1 (later_both t before.view.seen (s.0 ++ more) was (later_both t s.0 more (later_quiet t s.0 s.2) none))

@@ -14,8 +14,7 @@ use Rattle.frame_phases.specs.declared.entry.Beginning.TheVariants as begin
 use Rattle.frame_phases.specs.declared.entry.Took.{Took}
 use Rattle.frame_phases.specs.declared.entry.Took.TheVariants as took
 use Rattle.frame_phases.specs.Frames.{is_due, live_callbacks, removed_count}
-use Rattle.frame_phases.specs.Pulses.{pulse}
-use Rattle.frame_phases.specs.Pulses.{wants_by, wanted_by}
+use Rattle.frame_phases.specs.Pulses.{pulse, wants_by, wanted_by}
 use Rattle.frame_phases.specs.State.{Frames, past, with_entry, scheduled_at, next_callback, removed, delivered, ran, BeginsBy, TakesBy, Seals}
 use Rattle.frame_phases.proofs.Wanted.{NoneBegins, ran_begin_none, wanted_now, wanted_on, wanted_later, posted_wants, due_wants, pulse_no_earlier}
 use Rattle.choreographer.specs.declared.state.StampedFrames.{StampedFrames}

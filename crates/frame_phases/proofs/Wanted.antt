@@ -8,8 +8,7 @@ use Rattle.frame_phases.specs.declared.entry.Callback.{Callback}
 use Rattle.frame_phases.specs.declared.entry.FrameEntry.{FrameEntry}
 use Rattle.frame_phases.specs.declared.entry.FrameEntry.TheVariants.{Posted, Removed, Begin, Take, Ran}
 use Rattle.frame_phases.specs.Frames.{live_callbacks, is_due}
-use Rattle.frame_phases.specs.Pulses.{pulse}
-use Rattle.frame_phases.specs.Pulses.{wants_by, wanted_by}
+use Rattle.frame_phases.specs.Pulses.{pulse, wants_by, wanted_by}
 use Rattle.frame_phases.specs.State.{ran}
 use Rattle.frame_phases.proofs.History.{past-push}
 use Rattle.frame_phases.proofs.Pulses.{next_comes_after}

@@ -40,7 +40,7 @@ are_stamped interval entries = list_all (is_stamped interval) entries
 abbrev pub wants_by : ℕ → List FrameEntry → Bool
 wants_by millis past = list_any (λ c. nat_le c.due millis) (live_callbacks past)
 
--- at some moment since the latest Begin such a callback was live, or since the start where no frame began
+-- at some moment from the latest Begin on, that moment included, such a callback was live, or from the start on where no frame began
 unfoldable pub wanted_by : ℕ → List FrameEntry → Bool
 wanted_by millis [] = false
 wanted_by millis (Begin v s t ∷ past) = wants_by millis past

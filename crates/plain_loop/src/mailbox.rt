@@ -112,7 +112,7 @@ pub struct MailboxParts<E: Recorder = Unkept, P: Payload = ()> {
 }
 
 impl<E: Recorder, P: Payload> MailboxParts<E, P> {
-    /// The mailbox, with what calls on it ask for beside.
+    /// The mailbox of these parts, with the runtime, the allocator and the clock that its calls use.
     pub fn mailbox<'a, R: Wait, C: Clock>(
         &'a self,
         rt: &'a R,

@@ -3,6 +3,7 @@ use Rattle.loop_model.proofs.Prefixes.{prefix_self}
 use Rattle.choreographer.proofs.ByTurn.{turned, keeps_pulse}
 use Rattle.choreographer.proofs.Quiet.{grows_self}
 use Rattle.choreographer.proofs.Waits.{keeps_all}
+use Rattle.choreographer.proofs.Parts.{asked_stays}
 use Rattle.choreographer.proofs.table.Choreographer.asked.Goals as goal
 
 pub give-requires-clause-leaves : goal.give-requires-clause-leaves
@@ -24,3 +25,6 @@ returns-clause-turn g c =
           c.pass.view_is c.requires.1 c.pass.invariant.2 c.pass.invariant.3 t.taken t.found.state t.found.heard t.found.latest t.found.state.0 (prefix_self x.frames.entries) (c.give.ensures.2, c.give.ensures.3) (search rules),
       c.asked-asked.ensures.asked,
     )
+
+pub returns-clause-frame : goal.returns-clause-frame
+returns-clause-frame g c = asked_stays c.args.self.now.constants.phases c.args.pass.now _ _ (returns-clause-turn g c)

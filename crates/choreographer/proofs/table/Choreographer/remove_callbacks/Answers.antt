@@ -4,6 +4,7 @@ use Rattle.choreographer.proofs.Quiet.{grows_prefix}
 use Rattle.choreographer.proofs.Stamps.{stamped_removed}
 use Rattle.choreographer.proofs.Waits.{removed_waits}
 use Rattle.choreographer.proofs.Wanting.{removed_wanted}
+use Rattle.choreographer.proofs.Parts.{removed_stays}
 use Rattle.choreographer.proofs.table.Choreographer.remove_callbacks.Goals as goal
 
 pub give-requires-clause-leaves : goal.give-requires-clause-leaves
@@ -18,8 +19,8 @@ give-requires-clause-leaves g c = record {
   wanted = removed_wanted c.args.self.now.constants c.take-state.result c.remove-answer.new.self c.take-state.ensures.found.wanted c.args.phase c.args.id c.args.token c.remove-answer.result c.remove-answer.ensures.after c.remove-answer.ensures.err;
 }
 
-pub returns : goal.returns
-returns g c =
+pub returns-clause-turn : goal.returns-clause-turn
+returns-clause-turn g c =
     let x = c.take-state.result in
     let y = c.remove-answer.new.self in
     let t = c.take-state.ensures in (
@@ -31,3 +32,6 @@ returns g c =
       search rules,
       search rules,
     )
+
+pub returns-clause-frame : goal.returns-clause-frame
+returns-clause-frame g c = removed_stays c.args.self.now.constants.phases c.args.pass.now _ c.args.phase c.args.id c.args.token _ (returns-clause-turn g c)

@@ -19,7 +19,7 @@ remove_callbacks-requires g c =
 pub returns-in_err-remove_callbacks : goal.returns-in_err-remove_callbacks
 returns-in_err-remove_callbacks g c = record {
   works = record {
-    thread = thread_with_pass c.args.script.now c.args.hall.now c.args.self.now _ c.requires.at_work.thread refl refl refl c.args.looper c.index_mut.result.now c.remove_callbacks.new.pass refl c.index_mut.ensures.value (frame_turn_badge _ _ _ _ c.remove_callbacks.ensures.2);
+    thread = thread_with_pass c.args.script.now c.args.hall.now c.args.self.now _ c.requires.at_work.thread refl refl refl c.args.looper c.index_mut.result.now c.remove_callbacks.new.pass refl c.index_mut.ensures.value (frame_turn_badge _ _ _ _ c.remove_callbacks.ensures.turn.2);
     number = refl;
     passed = refl;
     goes = refl;
@@ -31,7 +31,7 @@ returns-in_err-remove_callbacks g c = record {
 pub returns-in_ok-remove_callbacks : goal.returns-in_ok-remove_callbacks
 returns-in_ok-remove_callbacks g c = record {
   works = record {
-    thread = thread_with_pass c.args.script.now c.args.hall.now c.args.self.now _ c.requires.at_work.thread refl refl refl c.args.looper c.index_mut.result.now c.remove_callbacks.new.pass refl c.index_mut.ensures.value (frame_turn_badge _ _ _ _ c.remove_callbacks.ensures.2);
+    thread = thread_with_pass c.args.script.now c.args.hall.now c.args.self.now _ c.requires.at_work.thread refl refl refl c.args.looper c.index_mut.result.now c.remove_callbacks.new.pass refl c.index_mut.ensures.value (frame_turn_badge _ _ _ _ c.remove_callbacks.ensures.turn.2);
     number = refl;
     passed = refl;
     goes = refl;
@@ -41,7 +41,7 @@ returns-in_ok-remove_callbacks g c = record {
       let t = c.args.self.now in
       let f = c.index_mut.result.now in
       let h = c.remove_callbacks.new.pass in
-      let turn = c.in_ok-remove_callbacks.ensures in
+      let turn = c.in_ok-remove_callbacks.ensures.turn in
       let near : c.args.looper < length t.kit.frames.items = omega (arith, c.len.ensures, c.if-place-len.true) in
       unframe_progress m c.args.script.now time now c.args.looper c.args.phase c.args.id t.number t.barriers.items t.kit.posters.items t.kit.frames.items f h past allowed c.index_mut.ensures.value near
       (subst (λ (i : ℕ). AsksFor (Removes c.args.phase i None) f h) c.from.ensures (removal_asks c.args.phase c.from.result f h turn.0 turn.1 turn.2 turn.4)) turn.2.turns up);
