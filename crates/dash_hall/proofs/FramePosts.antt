@@ -32,7 +32,7 @@ use Rattle.choreographer.specs.Steps.{known_by, posting_moment}
 use Rattle.choreographer.specs.Calls.{due_at, with_post}
 use Rattle.choreographer.proofs.Recorded.{turn_records}
 use Rattle.run_model.specs.Planned.{bare_call, token_in, entries_by, frame_due}
-use Rattle.run_model.specs.FrameRecords.{nanos_of, FrameAsk, Posts, Removes, Runs, asked_in, asks_in, as_told}
+use Rattle.run_model.specs.FrameRecords.{nanos_of, FrameAsk, Posts, Removes, Begins, Takes, asked_in, asks_in, as_told}
 use Rattle.loop_model.proofs.Options.{none_is}
 use Rattle.dash_hall.specs.Growth.{own, GoesOn, Makes}
 use Rattle.dash_hall.specs.Hosts.{is_sending, not_sent, sent_as, told_by, sends_by, AsksFor, PlacesBy, PostsFrame}
@@ -249,4 +249,5 @@ pub told_whole : (xs : List FrameAsk) → map (as_told true) xs ≡ xs
 told_whole [] = refl
 told_whole (Posts phase due id token ∷ xs) = ap (λ (l : List FrameAsk). Posts phase due id token ∷ l) (told_whole xs)
 told_whole (Removes phase id token ∷ xs) = ap (λ (l : List FrameAsk). Removes phase id token ∷ l) (told_whole xs)
-told_whole (Runs start ∷ xs) = ap (λ (l : List FrameAsk). Runs start ∷ l) (told_whole xs)
+told_whole (Begins start ∷ xs) = ap (λ (l : List FrameAsk). Begins start ∷ l) (told_whole xs)
+told_whole (Takes phase moment ∷ xs) = ap (λ (l : List FrameAsk). Takes phase moment ∷ l) (told_whole xs)

@@ -48,18 +48,18 @@ is_given s looper c k number is = ap (λ b. cond b (frame_badge_for number c ∷
 
 -- who has which pass
 pub thread_holds : (s : Script) (looper number : ℕ) → number < s.threads → holder_of s looper number ≡ number
-thread_holds s looper number lt = ap (λ b. cond b number (cond (ltb number (s.threads + 2)) (s.threads + looper) (s.threads + s.loopers))) (lt-ltb number s.threads lt)
+thread_holds s looper number lt = ap (λ b. cond b number (cond (ltb number (s.threads + 1)) (s.threads + looper) (s.threads + s.loopers))) (lt-ltb number s.threads lt)
 
-pub looper_holds : (s : Script) (looper number : ℕ) → s.threads ≤ number → number < s.threads + 2 → holder_of s looper number ≡ s.threads + looper
+pub looper_holds : (s : Script) (looper number : ℕ) → s.threads ≤ number → number < s.threads + 1 → holder_of s looper number ≡ s.threads + looper
 looper_holds s looper number le lt =
-    ap (λ b. cond b number (cond (ltb number (s.threads + 2)) (s.threads + looper) (s.threads + s.loopers))) (le-ltb number s.threads le)
-    ∙ ap (λ b. cond b (s.threads + looper) (s.threads + s.loopers)) (lt-ltb number (s.threads + 2) lt)
+    ap (λ b. cond b number (cond (ltb number (s.threads + 1)) (s.threads + looper) (s.threads + s.loopers))) (le-ltb number s.threads le)
+    ∙ ap (λ b. cond b (s.threads + looper) (s.threads + s.loopers)) (lt-ltb number (s.threads + 1) lt)
 
-pub controller_holds : (s : Script) (looper number : ℕ) → s.threads + 2 ≤ number → holder_of s looper number ≡ s.threads + s.loopers
+pub controller_holds : (s : Script) (looper number : ℕ) → s.threads + 1 ≤ number → holder_of s looper number ≡ s.threads + s.loopers
 controller_holds s looper number le =
     let past : s.threads ≤ number = omega (arith, le) in
-    ap (λ b. cond b number (cond (ltb number (s.threads + 2)) (s.threads + looper) (s.threads + s.loopers))) (le-ltb number s.threads past)
-    ∙ ap (λ b. cond b (s.threads + looper) (s.threads + s.loopers)) (le-ltb number (s.threads + 2) le)
+    ap (λ b. cond b number (cond (ltb number (s.threads + 1)) (s.threads + looper) (s.threads + s.loopers))) (le-ltb number s.threads past)
+    ∙ ap (λ b. cond b (s.threads + looper) (s.threads + s.loopers)) (le-ltb number (s.threads + 1) le)
 
 -- the numbers of the threads: none of them is this sender's
 pub given_none : (s : Script) (looper : ℕ) (c : SharedFrames) (k n : ℕ) → n ≤ s.threads → n ≤ k → given s looper c k 0 n ≡ []
@@ -89,48 +89,42 @@ given_thread s looper c k (suc n) le lt =
     (λ is. more ∙ (ap (λ l. l ++ given_one s looper c k n) (given_none s looper c k n le' (omega (arith, is))) ∙ (is_given s looper c k n (thread_holds s looper n below ∙ sym is) ∙ ap (λ m. frame_badge_for m c ∷ []) (sym is))))
     (λ not. more ∙ (ap (λ l. l ++ given_one s looper c k n) (given_thread s looper c k n le' (omega (arith, lt, not))) ∙ ap (λ l. frame_badge_for k c ∷ l) (not_given s looper c k n n (thread_holds s looper n below) (λ e. not (sym e)))))
 
--- the two passes of the looper and the one of the controller
-pub given_last : (s : Script) (looper : ℕ) (c : SharedFrames) (k : ℕ) → given s looper c k s.threads 3 ≡ given_one s looper c k s.threads ++ (given_one s looper c k (s.threads + 1) ++ given_one s looper c k (s.threads + 2))
-given_last s looper c k =
-    let two : s.threads + 1 + 1 ≡ s.threads + 2 = omega arith in
-    ap (λ l. given_one s looper c k s.threads ++ (given_one s looper c k (s.threads + 1) ++ l)) (append-nil _ ∙ ap (given_one s looper c k) two)
+-- the pass of the looper and the one of the controller
+pub given_last : (s : Script) (looper : ℕ) (c : SharedFrames) (k : ℕ) → given s looper c k s.threads 2 ≡ given_one s looper c k s.threads ++ given_one s looper c k (s.threads + 1)
+given_last s looper c k = ap (λ l. given_one s looper c k s.threads ++ l) (append-nil _)
 
-given_all_parts : (s : Script) (looper : ℕ) (c : SharedFrames) (k : ℕ) → given_of s looper c k ≡ given s looper c k 0 s.threads ++ (given_one s looper c k s.threads ++ (given_one s looper c k (s.threads + 1) ++ given_one s looper c k (s.threads + 2)))
+given_all_parts : (s : Script) (looper : ℕ) (c : SharedFrames) (k : ℕ) → given_of s looper c k ≡ given s looper c k 0 s.threads ++ (given_one s looper c k s.threads ++ given_one s looper c k (s.threads + 1))
 given_all_parts s looper c k =
     let zeroth : 0 + s.threads ≡ s.threads = omega arith in
-    given_parts s looper c k 0 s.threads 3 ∙ ap (λ l. given s looper c k 0 s.threads ++ l) (ap (λ m. given s looper c k m 3) zeroth ∙ given_last s looper c k)
+    given_parts s looper c k 0 s.threads 2 ∙ ap (λ l. given s looper c k 0 s.threads ++ l) (ap (λ m. given s looper c k m 2) zeroth ∙ given_last s looper c k)
 
 -- a thread has the one of its number
 pub of_thread : (s : Script) (looper : ℕ) (c : SharedFrames) (k : ℕ) → k < s.threads → given_of s looper c k ≡ frame_badge_for k c ∷ []
 of_thread s looper c k lt =
     let a = not_given s looper c k s.threads (s.threads + looper) (looper_holds s looper s.threads (omega arith) (omega arith)) (λ e. absurd (omega (arith, e, lt))) in
-    let b = not_given s looper c k (s.threads + 1) (s.threads + looper) (looper_holds s looper (s.threads + 1) (omega arith) (omega arith)) (λ e. absurd (omega (arith, e, lt))) in
-    let d = not_given s looper c k (s.threads + 2) (s.threads + s.loopers) (controller_holds s looper (s.threads + 2) (omega arith)) (λ e. absurd (omega (arith, e, lt))) in
-    given_all_parts s looper c k ∙ (λ i. given_thread s looper c k s.threads (omega arith) lt i ++ (a i ++ (b i ++ d i)))
+    let d = not_given s looper c k (s.threads + 1) (s.threads + s.loopers) (controller_holds s looper (s.threads + 1) (omega arith)) (λ e. absurd (omega (arith, e, lt))) in
+    given_all_parts s looper c k ∙ (λ i. given_thread s looper c k s.threads (omega arith) lt i ++ (a i ++ d i))
 
--- a looper has two of its own choreographer
-pub of_looper : (s : Script) (looper : ℕ) (c : SharedFrames) (k : ℕ) → k ≡ s.threads + looper → looper < s.loopers → given_of s looper c k ≡ frame_badge_for s.threads c ∷ frame_badge_for (s.threads + 1) c ∷ []
+-- a looper has one of its own choreographer
+pub of_looper : (s : Script) (looper : ℕ) (c : SharedFrames) (k : ℕ) → k ≡ s.threads + looper → looper < s.loopers → given_of s looper c k ≡ frame_badge_for s.threads c ∷ []
 of_looper s looper c k is lt =
     let a = is_given s looper c k s.threads (looper_holds s looper s.threads (omega arith) (omega arith) ∙ sym is) in
-    let b = is_given s looper c k (s.threads + 1) (looper_holds s looper (s.threads + 1) (omega arith) (omega arith) ∙ sym is) in
-    let d = not_given s looper c k (s.threads + 2) (s.threads + s.loopers) (controller_holds s looper (s.threads + 2) (omega arith)) (λ e. absurd (omega (arith, e, is, lt))) in
-    given_all_parts s looper c k ∙ (λ i. given_none s looper c k s.threads (omega arith) (omega (arith, is)) i ++ (a i ++ (b i ++ d i)))
+    let d = not_given s looper c k (s.threads + 1) (s.threads + s.loopers) (controller_holds s looper (s.threads + 1) (omega arith)) (λ e. absurd (omega (arith, e, is, lt))) in
+    given_all_parts s looper c k ∙ (λ i. given_none s looper c k s.threads (omega arith) (omega (arith, is)) i ++ (a i ++ d i))
 
 -- and none of another one
 pub of_other : (s : Script) (looper : ℕ) (c : SharedFrames) (k : ℕ) → s.threads ≤ k → k ≢ s.threads + looper → k ≢ s.threads + s.loopers → given_of s looper c k ≡ []
 of_other s looper c k le not not' =
     let a = not_given s looper c k s.threads (s.threads + looper) (looper_holds s looper s.threads (omega arith) (omega arith)) (λ e. not (sym e)) in
-    let b = not_given s looper c k (s.threads + 1) (s.threads + looper) (looper_holds s looper (s.threads + 1) (omega arith) (omega arith)) (λ e. not (sym e)) in
-    let d = not_given s looper c k (s.threads + 2) (s.threads + s.loopers) (controller_holds s looper (s.threads + 2) (omega arith)) (λ e. not' (sym e)) in
-    given_all_parts s looper c k ∙ (λ i. given_none s looper c k s.threads (omega arith) le i ++ (a i ++ (b i ++ d i)))
+    let d = not_given s looper c k (s.threads + 1) (s.threads + s.loopers) (controller_holds s looper (s.threads + 1) (omega arith)) (λ e. not' (sym e)) in
+    given_all_parts s looper c k ∙ (λ i. given_none s looper c k s.threads (omega arith) le i ++ (a i ++ d i))
 
 -- the controller has the last
-pub of_controller : (s : Script) (looper : ℕ) (c : SharedFrames) (k : ℕ) → k ≡ s.threads + s.loopers → looper < s.loopers → given_of s looper c k ≡ frame_badge_for (s.threads + 2) c ∷ []
+pub of_controller : (s : Script) (looper : ℕ) (c : SharedFrames) (k : ℕ) → k ≡ s.threads + s.loopers → looper < s.loopers → given_of s looper c k ≡ frame_badge_for (s.threads + 1) c ∷ []
 of_controller s looper c k is lt =
     let a = not_given s looper c k s.threads (s.threads + looper) (looper_holds s looper s.threads (omega arith) (omega arith)) (λ e. absurd (omega (arith, e, is, lt))) in
-    let b = not_given s looper c k (s.threads + 1) (s.threads + looper) (looper_holds s looper (s.threads + 1) (omega arith) (omega arith)) (λ e. absurd (omega (arith, e, is, lt))) in
-    let d = is_given s looper c k (s.threads + 2) (controller_holds s looper (s.threads + 2) (omega arith) ∙ sym is) in
-    given_all_parts s looper c k ∙ (λ i. given_none s looper c k s.threads (omega arith) (omega (arith, is)) i ++ (a i ++ (b i ++ d i)))
+    let d = is_given s looper c k (s.threads + 1) (controller_holds s looper (s.threads + 1) (omega arith) ∙ sym is) in
+    given_all_parts s looper c k ∙ (λ i. given_none s looper c k s.threads (omega arith) (omega (arith, is)) i ++ (a i ++ d i))
 
 -- what the sender has of these choreographers, of the loopers from `from` on
 abbrev pub given_all : Script → ℕ → List SharedFrames → ℕ → List FrameBadge
@@ -149,7 +143,7 @@ all_thread : (s : Script) (from : ℕ) (cs : List SharedFrames) (k : ℕ) → k 
 all_thread s from [] k lt = refl
 all_thread s from (c ∷ cs) k lt = λ i. of_thread s from c k lt i ++ all_thread s (from + 1) cs k lt i
 
-all_controller : (s : Script) (from : ℕ) (cs : List SharedFrames) (k : ℕ) → k ≡ s.threads + s.loopers → from + length cs ≤ s.loopers → given_all s from cs k ≡ map (frame_badge_for (s.threads + 2)) cs
+all_controller : (s : Script) (from : ℕ) (cs : List SharedFrames) (k : ℕ) → k ≡ s.threads + s.loopers → from + length cs ≤ s.loopers → given_all s from cs k ≡ map (frame_badge_for (s.threads + 1)) cs
 all_controller s from [] k is le = refl
 all_controller s from (c ∷ cs) k is le = λ i. of_controller s from c k is (omega (arith, le)) i ++ all_controller s (from + 1) cs k is (omega (arith, le)) i
 
@@ -179,13 +173,13 @@ given_are s cs k count lt = dite (dec_lt k s.threads)
     let zeroth : s.threads + (0 + (k - s.threads)) ≡ k = omega (arith, not) in
     ap (given_all s 0 cs) (sym zeroth)
     ∙ (all_looper s 0 cs (k - s.threads) (omega (arith, not, looper))
-    ∙ sym (past (omega (arith, not)) ∙ ap (λ b. cond b (looper_frames s.threads (slice_get cs (k - s.threads))) (map (frame_badge_for (s.threads + 2)) cs)) (lt-ltb k (s.threads + s.loopers) looper))))
+    ∙ sym (past (omega (arith, not)) ∙ ap (λ b. cond b (looper_frames s.threads (slice_get cs (k - s.threads))) (map (frame_badge_for (s.threads + 1)) cs)) (lt-ltb k (s.threads + s.loopers) looper))))
     (λ not'.
     all_controller s 0 cs k (omega (arith, not', lt)) (omega (arith, count))
-    ∙ sym (past (omega (arith, not)) ∙ ap (λ b. cond b (looper_frames s.threads (slice_get cs (k - s.threads))) (map (frame_badge_for (s.threads + 2)) cs)) (le-ltb k (s.threads + s.loopers) (omega (arith, not'))))))
+    ∙ sym (past (omega (arith, not)) ∙ ap (λ b. cond b (looper_frames s.threads (slice_get cs (k - s.threads))) (map (frame_badge_for (s.threads + 1)) cs)) (le-ltb k (s.threads + s.loopers) (omega (arith, not'))))))
   where
     later : List FrameBadge
-    later = cond (ltb k (s.threads + s.loopers)) (looper_frames s.threads (slice_get cs (k - s.threads))) (map (frame_badge_for (s.threads + 2)) cs)
+    later = cond (ltb k (s.threads + s.loopers)) (looper_frames s.threads (slice_get cs (k - s.threads))) (map (frame_badge_for (s.threads + 1)) cs)
 
     past : s.threads ≤ k → frames_for s cs k ≡ later
     past le = ap (λ b. cond b (map (frame_badge_for k) cs) later) (le-ltb k s.threads le)

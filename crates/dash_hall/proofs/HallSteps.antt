@@ -18,7 +18,7 @@ use Rattle.choreographer.specs.Ends.{AreNewPasses, IsNewPass}
 use Rattle.dash_hall.specs.declared.kit.Kit.{Kit}
 use Rattle.dash_hall.specs.Kits.{Badge, badge_of, badge_for, FrameBadge, frame_badge_of, frame_badge_for, frames_for}
 use Rattle.dash_hall.specs.Dealing.{Gets, EachGets, nothing, IsEmptyKit, IsNewKit, DealsPosters, DealsPasses, holder_of, given, given_of, AreUsedNowhere}
-use Rattle.dash_hall.proofs.HallGets.{each_start, each_more, each_same, each_one, only, only_none}
+use Rattle.dash_hall.proofs.HallGets.{each_more, each_same, each_one, only, only_none}
 use Rattle.dash_hall.proofs.HallPasses.{given_more, given_one, given_all, given_all-push, given_are, thread_holds, looper_holds, controller_holds}
 
 -- the first kits have got their posters of the queue
@@ -98,14 +98,14 @@ passes_more s looper number passes yielded rest p orig a b h e kit parts is held
     (each_same _ nothing _ (λ k. given s looper c k 0 (number + 1)) orig (set a h kit) (λ k lt. only_none h k)
     (λ k lt. ap (λ n. given s looper c k 0 number ++ only n (frame_badge_of p ∷ []) k) held ∙ given_next s looper number k c p known.1) both)
 
-pub passes_all : (s : Script) (looper number : ℕ) (passes : List Pass) (orig kits : List Kit) → number ≡ s.threads + 3 → PassesDealt s looper number passes orig kits → DealsPasses s looper passes orig kits
+pub passes_all : (s : Script) (looper number : ℕ) (passes : List Pass) (orig kits : List Kit) → number ≡ s.threads + 2 → PassesDealt s looper number passes orig kits → DealsPasses s looper passes orig kits
 passes_all s looper number passes orig kits is dealt = subst (λ n. PassesDealt s looper n passes orig kits) is dealt
 
 -- within the kits
 pub holder_within : (s : Script) (looper number : ℕ) → looper < s.loopers → holder_of s looper number < s.threads + s.loopers + 1
 holder_within s looper number lt = dite (dec_lt number s.threads)
     (λ thread. let h = thread_holds s looper number thread in omega (arith, h, thread))
-    (λ not. dite (dec_lt number (s.threads + 2))
+    (λ not. dite (dec_lt number (s.threads + 1))
     (λ own. let h = looper_holds s looper number (omega (arith, not)) own in omega (arith, h, lt))
     (λ not'. let h = controller_holds s looper number (omega (arith, not')) in omega (arith, h)))
 

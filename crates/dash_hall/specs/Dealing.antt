@@ -58,11 +58,11 @@ abbrev pub DealsPosters : List Sender → List Kit → List Kit → Type 0
 DealsPosters posters before after =
     (q : Shared TableId) → AreNew q posters → EachGets (λ k. badge_for k q ∷ []) nothing before after
 
--- the sender that has the pass of this number to a looper's choreographer: the threads come first, then the looper with two, and last the controller
+-- the sender that has the pass of this number to a looper's choreographer: the threads come first, then the looper, and last the controller
 abbrev pub holder_of : Script → ℕ → ℕ → ℕ
 holder_of s looper number =
     if nat_lt number s.threads then number
-    else if nat_lt number (s.threads + 2) then s.threads + looper
+    else if nat_lt number (s.threads + 1) then s.threads + looper
     else s.threads + s.loopers
 
 -- of the passes of a looper's choreographer with these numbers, `count` of them from `from` on, those that sender k has
@@ -73,7 +73,7 @@ given s looper c k from (suc count) =
 
 -- of all passes of a looper's choreographer, those that sender k has
 abbrev pub given_of : Script → ℕ → SharedFrames → ℕ → List FrameBadge
-given_of s looper c k = given s looper c k 0 (s.threads + 3)
+given_of s looper c k = given s looper c k 0 (s.threads + 2)
 
 -- where the passes are new ones of a looper's choreographer, each kit got those that its sender has
 abbrev pub DealsPasses : Script → ℕ → List Pass → List Kit → List Kit → Type 0

@@ -53,11 +53,11 @@ abbrev pub queue_constants : Bool → Script → TableId → ℕ → Constants T
 queue_constants lockstep s pool looper =
     record { home = pool; looper = looper; setting = record { main = looper == 0; lockstep = lockstep; senders = sender_count s } }
 
--- what stays the same in a looper's choreographer: it has the phases of the script's edition, each thread has a pass, the looper two and the controller one,
--- its record may be handed out as the run goes, and the looper's first pass alone delivers pulses
+-- what stays the same in a looper's choreographer: it has the phases of the script's edition, each thread has a pass, the looper one and the controller one,
+-- its record may be handed out as the run goes, and the looper's pass alone delivers pulses
 abbrev pub frame_constants : Script → ℕ → FrameConstants
 frame_constants s looper =
-    record { looper = looper; interval = s.period; phases = phase_count s.edition; passes = s.threads + 3; seals = true; pulses = Some s.threads }
+    record { looper = looper; interval = s.period; phases = phase_count s.edition; passes = s.threads + 2; seals = true; pulses = Some s.threads }
 
 abbrev pub queue_key : Shared TableId → Constants TableId
 queue_key q = q.constants
@@ -79,17 +79,17 @@ pub record IsHall (s : Script) (hall : Hall) : Type 0 where
   pub choreographers : AreChoreographersOf s hall.choreographers.items
   pub sources : length hall.sources.items ≡ s.loopers
 
--- a looper's two passes of its own choreographer
+-- a looper's pass of its own choreographer
 abbrev pub looper_frames : ℕ → Option SharedFrames → List FrameBadge
 looper_frames number None = []
-looper_frames number (Some c) = frame_badge_for number c ∷ frame_badge_for (number + 1) c ∷ []
+looper_frames number (Some c) = frame_badge_for number c ∷ []
 
--- the passes that a sender has: a thread and the controller one of each choreographer, a looper two of its own
+-- the passes that a sender has: a thread and the controller one of each choreographer, a looper one of its own
 abbrev pub frames_for : Script → List SharedFrames → ℕ → List FrameBadge
 frames_for s cs k =
     if nat_lt k s.threads then map (frame_badge_for k) cs
     else if nat_lt k (s.threads + s.loopers) then looper_frames s.threads (slice_get cs (k - s.threads))
-    else map (frame_badge_for (s.threads + 2)) cs
+    else map (frame_badge_for (s.threads + 1)) cs
 
 -- what a sender needs in the hall
 pub record IsKitOf (s : Script) (hall : Hall) (k : ℕ) (kit : Kit) : Type 0 where

@@ -139,7 +139,7 @@ fn deal_posters(kits: &mut Vec<Kit>, posters: Vec<Poster<PoolClaim>>) -> Result<
     Ok(())
 }
 
-/// A choreographer for each looper, with a pass in each thread's kit, two in the looper's and one in the controller's.
+/// A choreographer for each looper, with a pass in each kit of a thread, of the looper and of the controller.
 fn choreographers(
     alloc: Global,
     script: &Script,
@@ -158,7 +158,7 @@ fn choreographers(
     Ok(choreographers)
 }
 
-/// The choreographer of this looper, with its passes in the kits. The looper's first pass alone delivers pulses.
+/// The choreographer of this looper, with its passes in the kits. The looper's pass alone delivers pulses.
 fn choreographer(
     alloc: Global,
     script: &Script,
@@ -175,7 +175,7 @@ fn choreographer(
         looper,
         interval: script.period,
         phases: phase_count(script.edition),
-        passes: script.threads + 3,
+        passes: script.threads + 2,
         seals: true,
         pulses: Some(script.threads),
     };
@@ -184,7 +184,7 @@ fn choreographer(
     Ok(choreographer)
 }
 
-/// The passes of a looper's choreographer go to the threads, two to the looper, and the last to the controller.
+/// The passes of a looper's choreographer go to the threads, one to the looper, and the last to the controller.
 fn deal_passes(
     kits: &mut Vec<Kit>,
     script: &Script,
@@ -194,7 +194,7 @@ fn deal_passes(
     requires fits { script.now.threads + script.now.loopers < 100 }
     requires looper { looper < script.now.loopers }
     requires kits { length kits.old.items ≡ sender_count script.now }
-    requires passes { length passes.items ≡ script.now.threads + 3 }
+    requires passes { length passes.items ≡ script.now.threads + 2 }
     ensures { OnOk result (DealsPasses script.now looper passes.items kits.old.items kits.new.items) }
 {
     let mut number = 0;
@@ -205,8 +205,8 @@ fn deal_passes(
     Ok(())
 }
 
-/// The sender that has the pass of this number to a looper's choreographer: the threads come first, then the looper with two, and
-/// last the controller. The looper is one of the script, which has fewer than 100 threads and loopers together.
+/// The sender that has the pass of this number to a looper's choreographer: the threads come first, then the looper, and last the
+/// controller. The looper is one of the script, which has fewer than 100 threads and loopers together.
 pub fn holder(script: &Script, looper: u32, number: u32) -> usize
     requires fits { script.now.threads + script.now.loopers < 100 }
     requires looper { looper < script.now.loopers }
@@ -215,7 +215,7 @@ pub fn holder(script: &Script, looper: u32, number: u32) -> usize
     if number < script.threads {
         return number as usize;
     }
-    if number < script.threads + 2 {
+    if number < script.threads + 1 {
         return (script.threads + looper) as usize;
     }
     (script.threads + script.loopers) as usize

@@ -1,8 +1,9 @@
 //! The looper on which a choreographer runs, as the choreographer sees it.
-ghost use Rattle.std.specs.Prelude.{◌≡◌, ◌<◌, IfOk, OnOk, OnErr};
+ghost use Rattle.std.specs.Prelude.{◌≡◌, ◌<◌, Some, IfOk, OnOk, OnErr};
 ghost use mathlib.Core.List.{IsPrefix};
 ghost use Rattle.loop_model.specs.declared.call.Call.TheVariants.{Barrier, Unbarrier};
-ghost use Rattle.choreographer.specs.Known.{IsPassOf, MayDeliver};
+ghost use Rattle.choreographer.specs.Known.{IsPassOf, MayDeliver, MayBegin};
+ghost use Rattle.choreographer.specs.Within.{InFrame, MayTake, BegunAt, IfBegan, TakenAt};
 ghost use Rattle.choreographer.specs.Calls.{PulsedBy, HasPulse, DueBy, stamp_in};
 ghost use Rattle.dash_hall.specs.Growth.{GoesOn, CallsOnce, no_token, one_token, BarsOf};
 ghost use Rattle.dash_hall.specs.Kits.{frame_badge_of};
@@ -13,6 +14,7 @@ use crate::uptime::{Still, Uptime};
 use choreographer::{
     Choreographer, FrameHost, FramePass, HostSent, NANOS_PER_MILLI, Placed, Pulse,
 };
+use frame_phases::{Beginning, Took};
 use handler_post::{Handler, Sent, Way};
 use loop_model::NoMemory;
 use message_pool::{Pool, PoolClaim, PoolPass};
@@ -142,6 +144,31 @@ impl<'a, R: Wait, U: Uptime> Host<'a, R, U> {
         ensures sends { sends_of self.new ≡ sends_of self.old }
     {
         c.on_due(self.rt, pass, self, phase)
+    }
+
+    /// Begins the frame that is to begin, by a start that the uptime gives, or answers why not. It calls nothing on its queue. The pass
+    /// is one of the choreographer, and the one that alone delivers pulses, where there is such a one: then a pulse came whose frame has
+    /// neither begun nor would have gone back.
+    pub fn begin_frame(&mut self, c: &Choreographer, pass: &mut FramePass) -> Beginning
+        requires ready { IsHostNow self.old }
+        requires pass { IsPassOf pass.old c.now }
+        requires begins { MayBegin pass.old c.now }
+        ensures same { self.new ≡ self.old }
+        ensures turn { BegunAt (U.is_moment self.old.uptime.now) pass.old pass.new result }
+        ensures frame { IfBegan result (InFrame c.now.constants.phases pass.new (Some 0)) }
+    {
+        c.begin_frame(self.rt, pass, self)
+    }
+
+    /// Takes the phase that is next of the frame that the pass has in progress, at a moment that the uptime gives. It calls nothing on its
+    /// queue.
+    pub fn take_phase(&mut self, c: &Choreographer, pass: &mut FramePass, phase: u32) -> Took
+        requires ready { IsHostNow self.old }
+        requires takes { MayTake c.now phase pass.old × (phase < c.now.constants.phases) }
+        ensures same { self.new ≡ self.old }
+        ensures turn { TakenAt (U.is_moment self.old.uptime.now) c.now.constants.phases phase pass.old pass.new result }
+    {
+        c.take_phase(self.rt, pass, self, phase)
     }
 
     /// Posts a frame callback for `delay` milliseconds after the host's moment, by which it goes in place of its uptime. A refused message for its due time stands in the history. The pass

@@ -12,7 +12,7 @@ use shared_queue::Poster;
 use std::alloc::Global;
 
 /// A sender's poster of each looper's queue, its pass of the pool, and its passes of choreographers: one of each looper's,
-/// but two of its own where the sender is a looper.
+/// or of its own alone where the sender is a looper.
 #[derive(Drop)]
 pub struct Kit {
     /// Its posters, by looper number.

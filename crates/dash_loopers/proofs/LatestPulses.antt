@@ -8,16 +8,12 @@ use Rattle.choreographer.specs.Steps.{known_by}
 use Rattle.choreographer.specs.Known.{Pass, IsFrameTurn, SeesQuietly}
 use Rattle.choreographer.proofs.InTime.{later_quietly}
 use Rattle.choreographer.specs.Calls.{latest_stamp, GetsStamp, ComesAfter, DueBy, AwaitsBy, KnowsPulse, stamp_in}
-use Rattle.choreographer.specs.Done.{IsSamePass, BeginsByStamp, EndsWait, EndsWaitAt}
 use Rattle.dash_hall.specs.Kits.{FrameBadge, frame_badge_of}
 use Rattle.dash_hall.proofs.Badges.{frame_turn_badge}
-use Rattle.dash_loopers.specs.Played.{KeepsLatest, GetsLatest, ComesLater, HasLatest, EndsLatest, RunsInTime}
+use Rattle.dash_loopers.specs.Played.{KeepsLatest, GetsLatest, ComesLater, HasLatest, RunsInTime}
 use Rattle.choreographer.specs.Turn.{awaits_frame}
-use Rattle.choreographer.specs.declared.frame.Framed.{Framed}
-use Rattle.choreographer.specs.declared.frame.Framed.TheVariants.{Done, Elsewhere, Unscheduled, Backwards, NoMemory}
 use Rattle.dash_loopers.specs.declared.player.Parts.{Parts}
 use Rattle.dash_loopers.specs.Loopers.{MayAwait}
-use Rattle.dash_loopers.specs.Places.{HasEndedWait}
 use Rattle.choreographer.proofs.Waits.{due_waits}
 use Rattle.choreographer.specs.declared.hosted.Pulse.{Pulse}
 
@@ -27,7 +23,7 @@ one_or_none true n one none = absurd (omega (arith, one, none))
 one_or_none false n one none = refl
 
 -- the same pass, with a stamp and a frame that is to begin, or none
-latest_by : (before after : Pass) (stamp : ℕ) (awaits : Bool) (has : HasLatest before stamp awaits) (stamp' : ℕ) (awaits' : Bool) → frame_badge_of after ≡ frame_badge_of before → after.view.stamp ≡ stamp' → after.view.awaits ≡ cond awaits' 1 0
+pub latest_by : (before after : Pass) (stamp : ℕ) (awaits : Bool) (has : HasLatest before stamp awaits) (stamp' : ℕ) (awaits' : Bool) → frame_badge_of after ≡ frame_badge_of before → after.view.stamp ≡ stamp' → after.view.awaits ≡ cond awaits' 1 0
     → HasLatest after stamp' awaits'
 latest_by before after stamp awaits has stamp' awaits' badge is waits = record {
   key = has.key;
@@ -63,18 +59,6 @@ turn_keeps_latest before after x y turn same still stamp waits has =
     let s = turn.stamp has.key has.constants has.alone in
     let w = turn.awaits has.key has.constants has.alone in
     latest_by before after stamp waits has stamp waits (frame_turn_badge before after x y turn) (s.1 ∙ (same ∙ (s.0 ∙ has.has))) (w.1 ∙ (still ∙ (w.0 ∙ has.waits)))
-
--- a frame, which was to begin
-pub begins_end_latest : (before after : Pass) (how : Framed) → IsSamePass before after → BeginsByStamp before after → EndsWait before after how → HasEndedWait how → EndsLatest before after
-begins_end_latest before after how same begins ends ended stamp has =
-    latest_by before after stamp true has stamp false (λ i. record { table = same.0 i; constants = same.2 i; number = same.1 i }) ((begins has.key has.constants has.alone).1 ∙ has.has) (by_answer how ended (ends has.key has.constants has.alone))
-  where
-    by_answer : (r : Framed) → HasEndedWait r → EndsWaitAt before after r → after.view.awaits ≡ 0
-    by_answer Done over at = at
-    by_answer (Elsewhere next) over at = absurd over
-    by_answer Unscheduled over at = absurd at
-    by_answer (Backwards last) over at = at
-    by_answer NoMemory over at = absurd over
 
 -- a turn that schedules a frame where one is wanted
 pub due_keeps_latest : (before after : Pass) (is_moment : ℕ → Bool) (phase : ℕ) (result : Bool) → DueBy before after is_moment phase result → KeepsLatest before after

@@ -1,6 +1,6 @@
 -- In a loop by a clock a looper goes on from where it stood: what keeps that it has.
-use Rattle.std.proofs.Common.{◌≡◌, ℕ, Bool, true, false, List, [], ◌∷◌, ◌++◌, Some, None, refl, sym, ap, ◌∙◌, subst}
-use Rattle.std.specs.Prelude.{◌==◌, Result, Ok, Err, is_ok, OnOk}
+use Rattle.std.proofs.Common.{◌≡◌, ℕ, Bool, true, false, List, [], ◌∷◌, ◌++◌, Some, sym, ap, ◌∙◌, subst}
+use Rattle.std.specs.Prelude.{Result, Ok, Err, is_ok, OnOk}
 use Rattle.loop_model.specs.declared.post.Post.{Post as PostData}
 use Rattle.shared_queue.specs.Known.{IsSamePoster}
 use Rattle.loop_model.specs.declared.entry.Entry.{Entry}
@@ -15,31 +15,24 @@ use Rattle.looper_run.specs.Holding.{Sender, Holding}
 use Rattle.looper_run.specs.Tests.{Passes, PassesWith, IsLent, IsTake, HasTakenMessage, Unless}
 use Rattle.looper_run.specs.declared.dispatcher.Did.{Did}
 use Rattle.looper_run.specs.declared.dispatcher.Did.TheVariants.{Yes, No, NoMemory}
-use Rattle.run_model.specs.Planned.{frame_handler}
-use Rattle.run_model.specs.Loopers.{LooperState}
 use Rattle.dash_loopers.specs.declared.player.Parts.{Parts}
 use Rattle.dash_loopers.specs.declared.looper.StageLooper.{StageLooper}
-use Rattle.dash_loopers.specs.Played.{calls_in, calls_of, Delivers, looper_pulsed, Pulses, AreAlike, IsPlayingBy}
-use Rattle.dash_loopers.proofs.OpenTimes.{delivered_alike, taken_alike, pulsed_alike}
-use Rattle.dash_loopers.proofs.LooperStands.{taken, stands_pulse, by_dispatch, by_reading, stands_dispatch}
+use Rattle.dash_loopers.specs.Loopers.{goes_to_rules}
+use Rattle.dash_loopers.specs.Played.{calls_in, calls_of, MayTellDelivery, Delivers, looper_pulsed, Pulses, IsPlayingBy}
+use Rattle.dash_loopers.proofs.LooperStands.{stands_pulse, by_dispatch, taken_delivers, stands_dispatch}
 use Rattle.dash_loopers.proofs.LooperPlaying.{did_well}
 
-cleared : (a b : LooperState) → AreAlike a b → AreAlike (record a { painted = [] }) (record b { painted = [] })
-cleared a b h = record {
-  gauges = h.gauges;
-  barrier = h.barrier;
-  barriers = h.barriers;
-  fired = h.fired;
-  sent = h.sent;
-  posted = h.posted;
-  painted = refl;
-  place = h.place;
-  frames = h.frames;
-}
-
 -- a message that goes to the rules is delivered at the moment of its dispatch
-abbrev pub IsAtOnce : ℕ → PostData → ℕ → ℕ → Type 0
-IsAtOnce q m u now = m.obj ≡ None → (m.handler == frame_handler q) ≡ false → u ≡ now
+abbrev IsAtOnce : ℕ → PostData → ℕ → ℕ → Type 0
+IsAtOnce q m u now = goes_to_rules q m ≡ true → u ≡ now
+
+-- so in free mode its delivery is told at the moment of its dispatch
+in_free : (q u now : ℕ) (m : PostData) (is_moment : ℕ → Bool) → IsAtOnce q m u now → MayTellDelivery false q m u is_moment now
+in_free q u now m is_moment once = record {
+  rules = λ is. sym (once is);
+  time = λ is. absurd (let wrong : false ≡ true = is in cc);
+  frame = λ is. absurd (let wrong : false ≡ true = is in cc);
+}
 
 module _ (s : Script) (q : ℕ) (began : StageLooper) where
   -- a pulse was delivered and told, or none came
@@ -47,14 +40,9 @@ module _ (s : Script) (q : ℕ) (began : StageLooper) where
       → IsPlayingBy s q began k es acts parts → IsPlayingBy s q began k' es' acts' parts'
   pulsed_by now k k' es es' more acts acts' parts parts' same saw p meets =
       let here : Pulses s q now (calls_in k es) (calls_in k (es ++ more)) parts parts' acts acts' = subst (λ l. Pulses s q now (calls_in k es) l parts parts' acts acts') (λ i. calls_in (same i) (saw i)) p in
-      subst (λ (n : ℕ). IsPlayingBy s q began n es' acts' parts') (sym same) (subst (λ (l : List Entry). IsPlayingBy s q began k l acts' parts') (sym saw) (λ text did a come.
-      (let c = meets text did a come in
-      record {
-        did = looper_pulsed q here.stamp c.did;
-        state = looper_pulsed q here.stamp c.state;
-        alike = pulsed_alike q here.stamp c.did c.state c.alike;
-        stands = stands_pulse s q k now es more acts acts' parts parts' c.did c.state text here c.stands;
-      })))
+      subst (λ (n : ℕ). IsPlayingBy s q began n es' acts' parts') (sym same) (subst (λ (l : List Entry). IsPlayingBy s q began k l acts' parts') (sym saw) (λ text a come.
+      (let c = meets text a come in
+      (looper_pulsed q here.stamp c.0, stands_pulse s q k now es more acts acts' parts parts' c.0 text here c.1))))
 
   pub by_pulse : (now : ℕ) (before after : Holding) (parts parts' : Parts) → IsLent before after → Pulses s q now (calls_of before.poster) (calls_of after.poster) parts parts' before.journal.acts after.journal.acts
       → Passes (λ k es acts. IsPlayingBy s q began k es acts parts) before → Passes (λ k es acts. IsPlayingBy s q began k es acts parts') after
@@ -67,19 +55,13 @@ module _ (s : Script) (q : ℕ) (began : StageLooper) where
       → IsPlayingBy s q began k past acts parts → IsPlayingBy s q began k' es' (acts' ++ Dispatch n time route ∷ []) parts'
   dispatched_by k k' n time u is_moment m past es es' more e acts acts' route parts parts' same seen saw take post once d meets =
       let whole : es' ≡ (past ++ e ∷ []) ++ more = saw ∙ ap (λ (l : List Entry). l ++ more) seen in
-      let here : Delivers s q u is_moment m (calls_in k (past ++ e ∷ [])) (calls_in k ((past ++ e ∷ []) ++ more)) parts parts' acts acts' =
-      subst (λ l. Delivers s q u is_moment m l (calls_in k ((past ++ e ∷ []) ++ more)) parts parts' acts acts') (ap (calls_in k) seen) (subst (λ l. Delivers s q u is_moment m (calls_in k es) l parts parts' acts acts') (λ i. calls_in (same i) (whole i)) d) in
+      let here = taken_delivers s q k k' u is_moment m past es es' more e acts acts' parts parts' same seen saw d in
       subst (λ (j : ℕ). IsPlayingBy s q began j es' (acts' ++ Dispatch n time route ∷ []) parts') (sym same)
-      (subst (λ (l : List Entry). IsPlayingBy s q began k l (acts' ++ Dispatch n time route ∷ []) parts') (sym whole) (λ text did a come.
-      (let c = meets text did a come in
-      let frame = here.ran.frame in
-      let alike = delivered_alike s q u time here.ids m (taken q n time u frame m c.did) (taken q n time time frame m c.state) once (taken_alike q n time u time frame m c.did c.state c.alike) in
-      record {
-        did = by_reading s q k n time u is_moment m past more e take acts acts' parts parts' here c.did c.state;
-        state = by_dispatch s q k n time u is_moment m past more e take acts acts' parts parts' here c.did c.state;
-        alike = cleared _ _ alike;
-        stands = stands_dispatch s q k n time u is_moment m past more e take acts acts' parts parts' here c.did c.state route (λ is. absurd (let wrong : false ≡ true = is in cc)) text post (c.alike.painted ∙ c.stands.settled) alike.painted c.stands;
-      })))
+      (subst (λ (l : List Entry). IsPlayingBy s q began k l (acts' ++ Dispatch n time route ∷ []) parts') (sym whole) (λ text a come.
+      (let c = meets text a come in (
+        by_dispatch s q k n time u is_moment m past more e take acts acts' parts parts' here c.0,
+        stands_dispatch s q k n time u is_moment m past more e take acts acts' parts parts' here c.0 text (in_free q u time m is_moment once) c.1 route post,
+      ))))
 
   pub by_delivery : (time u : ℕ) (is_moment : ℕ → Bool) (node : Node) (route : Route) (before after : Holding) (parts parts' : Parts) → IsLent before after
       → HasTakenMessage (λ k es acts. IsPlayingBy s q began k es acts parts) before node time → IsAtOnce q (post_of node.item) u time
@@ -106,8 +88,6 @@ module _ (s : Script) (q : ℕ) (began : StageLooper) where
       by_end : {A E : Type 0} (r : Result A E) → OnOk r (Delivers s q u is_moment m (calls_of before.poster) (calls_of after.poster) parts parts' before.journal.acts after.journal.acts) → OnOk r (PassesWith (λ k es acts. IsPlayingBy s q began k es acts parts') after node time route)
       by_end (Ok x) h = by_delivery time u is_moment node route before after parts parts' lent t (subst (λ (p : PostData). IsAtOnce q p u time) is once) (subst (λ (p : PostData). Delivers s q u is_moment p (calls_of before.poster) (calls_of after.poster) parts parts' before.journal.acts after.journal.acts) is h)
       by_end (Err e) h = tt
-
--- ---- what a message tells by itself
 
 -- ---- a bell that was rung behind a delivery
 

@@ -25,7 +25,8 @@ use Rattle.dash_hall.specs.ByClock.{AddsByClock, AddsAt}
 use Rattle.dash_hall.proofs.FramePosts.{accepted, refused, told_one, told_none}
 use Rattle.dash_hall.proofs.HostClock.{adds_none, adds_then, adds_call, adds_nothing, begins_by_clock}
 use Rattle.dash_loopers.specs.declared.player.Parts.{Parts}
-use Rattle.dash_loopers.specs.Clocked.{AddsUntimed, AreUntimed, CallsUntimed, goes_to_rules, DeliversAt}
+use Rattle.dash_loopers.specs.Clocked.{AddsUntimed, AreUntimed, CallsUntimed, DeliversAt}
+use Rattle.dash_loopers.specs.Loopers.{goes_to_rules}
 use Rattle.dash_loopers.proofs.LooperLists.{map_set_same}
 use Rattle.dash_loopers.proofs.PlaySteps.{hosted_on}
 

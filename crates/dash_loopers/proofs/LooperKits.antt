@@ -59,9 +59,9 @@ module _ (s : Script) (hall : Hall) (n : ℕ) (l : IsLooperOf s hall n) where
       found (inl a) = (a.0, a.2)
       found (inr b) = (let few = b.0 in let one = l.one in absurd (omega (arith, few, one, frames_count s hall n l)))
 
-  -- the passes of its kit
-  pub two_frames : (c : SharedFrames) → slice_get hall.choreographers.items n ≡ Some c → frames_for s hall.choreographers.items (s.threads + n) ≡ frame_badge_for s.threads c ∷ frame_badge_for (s.threads + 1) c ∷ []
-  two_frames c at =
+  -- the pass of its kit
+  pub one_frame : (c : SharedFrames) → slice_get hall.choreographers.items n ≡ Some c → frames_for s hall.choreographers.items (s.threads + n) ≡ frame_badge_for s.threads c ∷ []
+  one_frame c at =
       let one = l.one in
       let no_thread : ltb (s.threads + n) s.threads ≡ false = le-ltb (s.threads + n) s.threads (omega arith) in
       let looper : ltb (s.threads + n) (s.threads + s.loopers) ≡ true = lt-ltb (s.threads + n) (s.threads + s.loopers) (omega (arith, one)) in
@@ -75,10 +75,11 @@ module _ (s : Script) (hall : Hall) (n : ℕ) (l : IsLooperOf s hall n) where
       let same = ap length k.posters in
       omega (arith, one, count, same, length-map kit.posters.items badge_of, length-map hall.queues.items (badge_for (s.threads + n)))
 
-  pub kit_two : (kit : Kit) → IsKitOf s hall (s.threads + n) kit → length kit.frames.items ≡ 2
-  kit_two kit k =
+  -- its kit has one pass
+  pub kit_one : (kit : Kit) → IsKitOf s hall (s.threads + n) kit → length kit.frames.items ≡ 1
+  kit_one kit k =
       let c = its_frames in
-      let same : length (map frame_badge_of kit.frames.items) ≡ 2 = ap length (k.frames ∙ two_frames c.0 c.1) in
+      let same : length (map frame_badge_of kit.frames.items) ≡ 1 = ap length (k.frames ∙ one_frame c.0 c.1) in
       omega (arith, same, length-map kit.frames.items frame_badge_of)
 
   pub others_many : (parts : Parts) → ArePartsOf s hall n parts → n ≤ length parts.others.items
@@ -91,15 +92,10 @@ module _ (s : Script) (hall : Hall) (n : ℕ) (l : IsLooperOf s hall n) where
       let same = ap length are.others in
       omega (arith, within, same, length-map parts.others.items badge_of, length-remove (map (badge_for k) hall.queues.items) n within)
 
--- the first and the second of two
-pub first_is : {X Y : Type 0} (f : X → Y) (xs : List X) (x : X) (a b : Y) → map f xs ≡ a ∷ b ∷ [] → x ≡ get_or xs 0 x → f x ≡ a
-first_is f [] x a b e is = absurd cc
-first_is f (y ∷ ys) x a b e is = let head : f y ≡ a = cc in ap f is ∙ head
-
-second_is : {X Y : Type 0} (f : X → Y) (xs : List X) (x : X) (a b : Y) → map f xs ≡ a ∷ b ∷ [] → x ≡ get_or (remove xs 0) 0 x → f x ≡ b
-second_is f [] x a b e is = absurd cc
-second_is f (y ∷ []) x a b e is = absurd cc
-second_is f (y ∷ z ∷ ys) x a b e is = let head : f z ≡ b = cc in ap f is ∙ head
+-- the only one
+pub only_is : {X Y : Type 0} (f : X → Y) (xs : List X) (x : X) (a : Y) → map f xs ≡ a ∷ [] → x ≡ get_or xs 0 x → f x ≡ a
+only_is f [] x a e is = absurd cc
+only_is f (y ∷ ys) x a e is = let head : f y ≡ a = cc in ap f is ∙ head
 
 -- its code serves its queue
 pub serves_now : (s : Script) (hall : Hall) (l : StageLooper) (parts : Parts) → IsHall s hall → IsLooper s hall l → l.parts ≡ Some parts → ServesAt s hall l.number parts (workplace l.looper.held)
@@ -178,10 +174,10 @@ posters_begin kit n poster mine others lt is rest same =
 -- a looper begins with what its kit has
 pub looper_begins : (s : Script) (hall : Hall) (n : ℕ) (kit : Kit) (parts : Parts) (looping : Looping) (poster : Sender) (last : Round) → IsLooperOf s hall n → IsKitOf s hall (s.threads + n) kit → IsUnusedKit kit
     → poster ≡ get_or kit.posters.items n poster → parts.others.items ≡ remove kit.posters.items n
-    → parts.frames ≡ get_or kit.frames.items 0 parts.frames → parts.root.pass ≡ get_or (remove kit.frames.items 0) 0 parts.root.pass
+    → parts.frames ≡ get_or kit.frames.items 0 parts.frames
     → looping.held ≡ record { poster = poster; pass = kit.pass; journal = record { looper = n; acts = [] } } → looping.ended ≡ is_ended last → is_ended last ≡ false → parts.awaits ≡ false
     → IsLooper s hall (record { number = n; sender = s.threads + n; looper = looping; parts = Some parts; last = last; dispatched = 0 })
-looper_begins s hall n kit parts looping poster last l k unused is others frames client held ended going unawaited =
+looper_begins s hall n kit parts looping poster last l k unused is others frames held ended going unawaited =
     let at : slice_get kit.posters.items n ≡ Some poster = slice_get_read kit.posters.items (length kit.posters.items) n poster refl (kit_many s hall n l kit k) is in
     let mine : (q : Shared TableId) → slice_get hall.queues.items n ≡ Some q → badge_of poster ≡ badge_for (s.threads + n) q = λ q at'. at_same badge_of (badge_for (s.threads + n)) kit.posters.items hall.queues.items n poster q k.posters at at' in
     let q = its_queue s hall n l in
@@ -194,8 +190,7 @@ looper_begins s hall n kit parts looping poster last l k unused is others frames
       sender = refl;
       parts = record {
         others = ap (map badge_of) others ∙ (map-remove badge_of kit.posters.items n ∙ ap (λ xs. remove xs n) k.posters);
-        frames = λ c at'. first_is frame_badge_of kit.frames.items parts.frames (frame_badge_for s.threads c) (frame_badge_for (s.threads + 1) c) (k.frames ∙ two_frames s hall n l c at') frames;
-        client = λ c at'. second_is frame_badge_of kit.frames.items parts.root.pass (frame_badge_for s.threads c) (frame_badge_for (s.threads + 1) c) (k.frames ∙ two_frames s hall n l c at') client;
+        frames = λ c at'. only_is frame_badge_of kit.frames.items parts.frames (frame_badge_for s.threads c) (k.frames ∙ one_frame s hall n l c at') frames;
         awaits = λ waits. absurd (let wrong : false ≡ true = sym unawaited ∙ waits in cc);
       };
       place = record {
@@ -215,7 +210,7 @@ looper_begins s hall n kit parts looping poster last l k unused is others frames
 
 -- the looper's kit again
 pub kit_again : (s : Script) (hall : Hall) (l : StageLooper) (parts : Parts) (kit : Kit) → IsHall s hall → IsLooper s hall l → l.parts ≡ Some parts
-    → kit.posters.items ≡ insert parts.others.items l.number l.looper.held.poster → kit.frames.items ≡ parts.frames ∷ parts.root.pass ∷ [] → kit.pass ≡ l.looper.held.pass
+    → kit.posters.items ≡ insert parts.others.items l.number l.looper.held.poster → kit.frames.items ≡ parts.frames ∷ [] → kit.pass ≡ l.looper.held.pass
     → IsKitOf s hall (s.threads + l.number) kit
 kit_again s hall l parts kit is_hall is e posters frames pass =
     let k : ℕ = s.threads + l.number in
@@ -231,7 +226,7 @@ kit_again s hall l parts kit is_hall is e posters frames pass =
     record {
       posters = ap (map badge_of) posters ∙ (map-insert badge_of parts.others.items l.number l.looper.held.poster
           ∙ (ap₂ (λ xs b. insert xs l.number b) are.others badge ∙ insert_removed (map (badge_for k) hall.queues.items) l.number (badge_for k q.0) at));
-      frames = ap (map frame_badge_of) frames ∙ (ap₂ (λ a b. a ∷ b ∷ []) (are.frames c.0 c.1) (are.client c.0 c.1) ∙ sym (two_frames s hall l.number of c.0 c.1));
+      frames = ap (map frame_badge_of) frames ∙ (ap (λ b. b ∷ []) (are.frames c.0 c.1) ∙ sym (one_frame s hall l.number of c.0 c.1));
       pass = ap (λ t. t.home) pass ∙ is.place.pool;
     }
 

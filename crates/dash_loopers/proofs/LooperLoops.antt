@@ -35,7 +35,7 @@ use Rattle.looper_run.specs.Loops.{IsStill, UnlessLost}
 use Rattle.std.specs.Option.{IsSomeAnd}
 use Rattle.std.proofs.Common.{None}
 use Rattle.run_model.specs.Loopers.{LooperState}
-use Rattle.dash_loopers.specs.Played.{AreAlike, StandsBy, ComesBy, IsPlayingBy, HasPlayedBy}
+use Rattle.dash_loopers.specs.Played.{StandsBy, StandsSomewhere, IsPlayingBy, HasPlayedBy}
 use Rattle.dash_hall.specs.declared.hall.Hall.{Hall}
 use Rattle.dash_hall.specs.Kits.{IsHall}
 use Rattle.dash_loopers.specs.declared.player.Parts.{Parts}
@@ -197,25 +197,21 @@ worked shows start cap s before after loop.NoMemory going l = absurd cc
 pub played_by : (s : Script) (l : StageLooper) (parts' : Parts) (after : Looping) (last : Round) → after.held.poster.sender ≡ l.sender
     → (is_given_up last ≡ false → IsPlayingBy s l.number l after.held.poster.sender after.held.poster.view.seen after.held.journal.acts parts')
     → HasPlayedBy s l (record { number = l.number; sender = l.sender; looper = after; parts = Some parts'; last = last; dispatched = l.dispatched })
-played_by s l parts' after last mine plays = λ going text did a come.
-    subst (λ (k : ℕ). ComesBy s l.number k after.held.poster.view.seen after.held.journal.acts parts') mine (plays going text did a come)
+played_by s l parts' after last mine plays = λ going text a come.
+    subst (λ (k : ℕ). StandsSomewhere s l.number k after.held.poster.view.seen after.held.journal.acts parts') mine (plays going text a come)
 
 -- one loop after another
 pub plays_then : (s : Script) (a b c : StageLooper) → b.number ≡ a.number → b.sender ≡ a.sender → is_given_up b.last ≡ false → HasPlayedBy s a b → HasPlayedBy s b c → HasPlayedBy s a c
-plays_then s a b c number sender going first next = λ on text did x come. (
-    let here = from b.parts (first going text did x come) in
-    subst (λ (n : ℕ). IsSomeAnd c.parts (ComesBy s n a.sender c.looper.held.poster.view.seen c.looper.held.journal.acts)) number
-    (subst (λ (k : ℕ). IsSomeAnd c.parts (ComesBy s b.number k c.looper.held.poster.view.seen c.looper.held.journal.acts)) sender (next on text here.0 here.1 here.2)))
+plays_then s a b c number sender going first next = λ on text x come. (
+    let here = from b.parts (first going text x come) in
+    subst (λ (n : ℕ). IsSomeAnd c.parts (StandsSomewhere s n a.sender c.looper.held.poster.view.seen c.looper.held.journal.acts)) number
+    (subst (λ (k : ℕ). IsSomeAnd c.parts (StandsSomewhere s b.number k c.looper.held.poster.view.seen c.looper.held.journal.acts)) sender (next on text here.0 here.1)))
   where
-    from : (o : Option Parts) → IsSomeAnd o (ComesBy s a.number a.sender b.looper.held.poster.view.seen b.looper.held.journal.acts)
-        → (did : LooperState) × (x : LooperState) × (AreAlike did x × IsSomeAnd o (λ parts. StandsBy false s b.number b.sender b.looper.held.poster.view.seen b.looper.held.journal.acts parts did x))
+    from : (o : Option Parts) → IsSomeAnd o (StandsSomewhere s a.number a.sender b.looper.held.poster.view.seen b.looper.held.journal.acts)
+        → (x : LooperState) × IsSomeAnd o (λ parts. StandsBy false s b.number b.sender b.looper.held.poster.view.seen b.looper.held.journal.acts parts x)
     from None h = absurd h
     from (Some parts) h = (
-      h.did,
-      h.state,
-      (
-        h.alike,
-        subst (λ (n : ℕ). StandsBy false s n b.sender b.looper.held.poster.view.seen b.looper.held.journal.acts parts h.did h.state) (sym number)
-            (subst (λ (k : ℕ). StandsBy false s a.number k b.looper.held.poster.view.seen b.looper.held.journal.acts parts h.did h.state) (sym sender) h.stands),
-      ),
+      h.0,
+      subst (λ (n : ℕ). StandsBy false s n b.sender b.looper.held.poster.view.seen b.looper.held.journal.acts parts h.0) (sym number)
+          (subst (λ (k : ℕ). StandsBy false s a.number k b.looper.held.poster.view.seen b.looper.held.journal.acts parts h.0) (sym sender) h.1),
     )

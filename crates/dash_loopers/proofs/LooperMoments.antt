@@ -1,6 +1,6 @@
 -- In a loop by a clock the moments of a looper's calls are the clock's, or the queue's time.
 use Rattle.std.proofs.Common.{◌≡◌, ℕ, ◌<◌, ◌≤◌, Bool, true, false, List, [], ◌∷◌, ◌++◌, length, get_or, Option, Some, refl, sym, ap, ◌∙◌, subst, arith, append_assoc, eqb-true}
-use Rattle.std.specs.Prelude.{◌==◌, ◌&&◌, not, MatchBool, is_some, is_ok, ◌⊎◌, Result, OnOk}
+use Rattle.std.specs.Prelude.{◌==◌, ◌&&◌, not, MatchBool, is_ok, ◌⊎◌, Result, OnOk}
 use Rattle.std.specs.List.{insert, slice_get}
 use Rattle.std.specs.Option.{IsSomeAnd}
 use Rattle.std.proofs.lemmas.Bool.{MatchBool-at_false, and_parts, and_from}
@@ -43,13 +43,13 @@ use Rattle.dash_hall.specs.Uptimes.{is_shown}
 use Rattle.dash_hall.proofs.Clocking.{if_free, where_true, clock_more, of_either, clock_same, taken}
 use Rattle.dash_loopers.specs.declared.player.Parts.{Parts}
 use Rattle.dash_loopers.specs.declared.looper.StageLooper.{StageLooper}
-use Rattle.dash_loopers.specs.Loopers.{IsLooperOf, IsPlaceOf, others_in, is_given_up}
+use Rattle.dash_loopers.specs.Loopers.{IsLooperOf, IsPlaceOf, others_in, is_given_up, goes_to_rules}
 use Rattle.dash_loopers.specs.Played.{calls_of, Delivers, StandsBy, IsPlayingBy}
-use Rattle.dash_loopers.specs.Clocked.{ServesFree, AddsUntimed, AreUntimed, CallsUntimed, goes_to_rules, DeliversAt, is_call_by, CallsByClock, IsPlayingAt, StaysByClock}
+use Rattle.dash_loopers.specs.Clocked.{ServesFree, AddsUntimed, AreUntimed, CallsUntimed, DeliversAt, is_call_by, CallsByClock, IsPlayingAt, StaysByClock}
 use Rattle.dash_loopers.specs.ClockedLaws.{calls_beside, no_call_by_look}
 use Rattle.dash_hall.proofs.HostClock.{adds_none}
 use Rattle.dash_loopers.proofs.LooperPlaying.{delivers_none}
-use Rattle.dash_loopers.proofs.LooperByClock.{IsAtOnce, by_delivery, dispatches_well_by}
+use Rattle.dash_loopers.proofs.LooperByClock.{by_delivery, dispatches_well_by}
 use Rattle.dash_loopers.proofs.LooperClock.{untimed_same, untimed_then, untimed_length, sender_at}
 use Rattle.dash_loopers.proofs.LooperKits.{its_queue}
 use Rattle.dash_loopers.proofs.LooperPlaces.{queue_is}
@@ -108,11 +108,11 @@ module _ (m : Mode) (s : Script) (q : ℕ) (began : StageLooper) where
       (λ h. at_more before.poster after.poster after.journal.acts parts parts' lent.same.sender (calls.own m) calls.others at.calls at.others h) plays
 
   -- what was taken, as it plays
-  pub taken_plays : (before : Holding) (node : Node) (time : ℕ) (parts : Parts) → HasTakenMessage (λ k es acts. IsPlayingAt m s q began k es acts parts) before node time → HasTakenMessage (λ k es acts. IsPlayingBy s q began k es acts parts) before node time
+  taken_plays : (before : Holding) (node : Node) (time : ℕ) (parts : Parts) → HasTakenMessage (λ k es acts. IsPlayingAt m s q began k es acts parts) before node time → HasTakenMessage (λ k es acts. IsPlayingBy s q began k es acts parts) before node time
   taken_plays before node time parts t = record { past = t.past; take = t.take; seen = t.seen; is_take = t.is_take; post = t.post; passes = t.passes.plays }
 
   -- a message was dispatched
-  pub dispatched_at : (before after : Holding) (node : Node) (time : ℕ) (route : Route) (parts parts' : Parts) → IsLent before after → AddsByClock m before.poster after.poster → AreUntimed parts.others.items parts'.others.items
+  dispatched_at : (before after : Holding) (node : Node) (time : ℕ) (route : Route) (parts parts' : Parts) → IsLent before after → AddsByClock m before.poster after.poster → AreUntimed parts.others.items parts'.others.items
       → HasTakenMessage (λ k es acts. IsPlayingAt m s q began k es acts parts) before node time
       → PassesWith (λ k es acts. IsPlayingBy s q began k es acts parts') after node time route → PassesWith (λ k es acts. IsPlayingAt m s q began k es acts parts') after node time route
   dispatched_at before after node time route parts parts' lent adds others t plays =
@@ -129,12 +129,8 @@ module _ (m : Mode) (s : Script) (q : ℕ) (began : StageLooper) where
 
 -- ---- at its moment
 
--- a message for the rules is delivered at the moment of its dispatch
-pub rules_at_once : (q u now : ℕ) (m : PostData) → (goes_to_rules q m ≡ true → u ≡ now) → IsAtOnce q m u now
-rules_at_once q u now m once none not_frame = once (λ i. not (not_frame i) && not (is_some (none i)))
-
 -- what a delivery adds, by the message
-pub delivered_adds : (m : Mode) (q u : ℕ) (p : PostData) (own own' : Sender) (parts parts' : Parts) → m.lockstep ≡ false → IsInMode m own → (goes_to_rules q p ≡ false → IsMomentOf m u) → DeliversAt q u p own own' parts parts' → AddsByClock m own own'
+delivered_adds : (m : Mode) (q u : ℕ) (p : PostData) (own own' : Sender) (parts parts' : Parts) → m.lockstep ≡ false → IsInMode m own → (goes_to_rules q p ≡ false → IsMomentOf m u) → DeliversAt q u p own own' parts parts' → AddsByClock m own own'
 delivered_adds m q u p own own' parts parts' free mode moment d = go (goes_to_rules q p) refl
   where
     go : (b : Bool) → goes_to_rules q p ≡ b → AddsByClock m own own'
@@ -146,7 +142,7 @@ pub of_shown : (shows : ℕ → Bool) (start u : ℕ) → IsShown shows start u 
 of_shown shows start u h = record { reading = h.reading; shown = h.shown; since = h.since }
 
 -- the looper's queue is in the mode of the hall
-pub in_the_mode : (m : Mode) (s : Script) (hall : Hall) (n : ℕ) (h : Holding) → hall.lockstep ≡ false → IsLooperOf s hall n → IsPlaceOf hall n (workplace h) → IsInMode m h.poster
+in_the_mode : (m : Mode) (s : Script) (hall : Hall) (n : ℕ) (h : Holding) → hall.lockstep ≡ false → IsLooperOf s hall n → IsPlaceOf hall n (workplace h) → IsInMode m h.poster
 in_the_mode m s hall n h mode of place =
     let q = its_queue s hall n of in
     if_free m.lockstep ((c : Constants TableId) × (h.poster.view.constants ≡ Some c) × (c.setting.lockstep ≡ false))
@@ -163,7 +159,7 @@ delivery_at shows start s hall q began node now at route letter r d h k parts pa
     let mode = in_the_mode m s hall q h serves.mode serves.serves.looper serves.serves.place in
     let adds = delivered_adds m q at letter h.poster k.poster parts parts' refl mode (λ isnt. of_shown shows start at (read isnt)) clocked in
     dispatch_at m s q began d h k node now route parts parts' lent adds clocked.others taken
-    (dispatches_well_by s q began now at (is_shown shows start) node route letter r d h k parts parts' is (rules_at_once q at now letter rules)
+    (dispatches_well_by s q began now at (is_shown shows start) node route letter r d h k parts parts' is rules
     lent (taken_plays m s q began h node now parts taken) delivers never well)
 
 -- a message's own callback ran, and called nothing
@@ -172,7 +168,7 @@ pub callback_at : (shows : ℕ → Bool) (start : ℕ) (s : Script) (q : ℕ) (b
 callback_at shows start s q began node now id h parts taken is =
     let m = in_free_mode shows start in
     dispatched_at m s q began h h node now (Callback id) parts parts (lent_self h) (adds_none m h.poster h.poster refl) (untimed_same parts.others.items parts.others.items refl) taken
-    (by_delivery s q began now now (λ n. true) node (Callback id) h h parts parts (lent_self h) (taken_plays m s q began h node now parts taken) (λ none not_frame. refl)
+    (by_delivery s q began now now (λ n. true) node (Callback id) h h parts parts (lent_self h) (taken_plays m s q began h node now parts taken) (λ is. refl)
     (delivers_none s q 0 began now (λ n. true) (post_of node.item) id (calls_of h.poster) parts h.journal.acts is))
 
 -- ---- the looks of a loop
@@ -277,13 +273,11 @@ stays_by_clock m l after parts' last le others own = λ going had. by_clock_of m
 pub playing_at_start : (m : Mode) (s : Script) (l began : StageLooper) (parts : Parts) → began ≡ l → l.parts ≡ Some parts → l.looper.held.poster.sender ≡ l.sender
     → IsPlayingAt m s l.number began l.looper.held.poster.sender l.looper.held.poster.view.seen l.looper.held.journal.acts parts
 playing_at_start m s l began parts same e mine = subst (λ (b : StageLooper). IsPlayingAt m s l.number b l.looper.held.poster.sender l.looper.held.poster.view.seen l.looper.held.journal.acts parts) (sym same) (record {
-  plays = λ text did a come. record {
-    did = did;
-    state = a;
-    alike = come.0;
-    stands = subst (λ (k : ℕ). StandsBy false s l.number k l.looper.held.poster.view.seen l.looper.held.journal.acts parts did a) (sym mine)
-        (subst (λ (o : Option Parts). IsSomeAnd o (λ ps. StandsBy false s l.number l.sender l.looper.held.poster.view.seen l.looper.held.journal.acts ps did a)) e come.1);
-  };
+  plays = λ text a come. (
+    a,
+    subst (λ (k : ℕ). StandsBy false s l.number k l.looper.held.poster.view.seen l.looper.held.journal.acts parts a) (sym mine)
+        (subst (λ (o : Option Parts). IsSomeAnd o (λ ps. StandsBy false s l.number l.sender l.looper.held.poster.view.seen l.looper.held.journal.acts ps a)) e come),
+  );
   calls = record { more = []; seen = sym (append-nil l.looper.held.poster.view.seen); clocked = tt };
   others = untimed_same (others_in l.parts) parts.others.items (sym (ap others_in e));
 })

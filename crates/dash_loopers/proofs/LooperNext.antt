@@ -21,7 +21,7 @@ use Rattle.dash_hall.proofs.Badges.{frame_turn_badge}
 use Rattle.dash_loopers.specs.declared.player.Parts.{Parts}
 use Rattle.dash_loopers.specs.declared.looper.StageLooper.{StageLooper}
 use Rattle.dash_loopers.specs.Loopers.{ArePartsOf, IsLooper, others_in, posters_of, is_given_up}
-use Rattle.dash_loopers.specs.Played.{AreAlike, StandsBy, ComesBy, HasPlayedBy}
+use Rattle.dash_loopers.specs.Played.{StandsBy, StandsSomewhere, HasPlayedBy}
 use Rattle.dash_loopers.specs.Clocked.{AreByClockOf}
 use Rattle.dash_loopers.specs.Looped.{GoesOnFrom, StaysTold, LooksForPulse, HasLooped, HasOnlyLooked}
 use Rattle.dash_loopers.proofs.FrameIds.{turn_grew}
@@ -37,33 +37,36 @@ pub looper_asked : (s : Script) (hall : Hall) (l : StageLooper) (parts : Parts) 
 looper_asked s hall l parts g r is e asked =
     let are = parts_of s hall l parts is e in
     let badge = frame_turn_badge _ _ _ _ asked.1 in
-    looper_with s hall l (record parts { frames = g }) (record { others = are.others; frames = λ c at. badge ∙ are.frames c at; client = are.client; awaits = turn_may_await parts (record parts { frames = g }) asked.0 asked.0 asked.1 refl refl are.awaits }) is
+    looper_with s hall l (record parts { frames = g }) (record { others = are.others; frames = λ c at. badge ∙ are.frames c at; awaits = turn_may_await parts (record parts { frames = g }) asked.0 asked.0 asked.1 refl refl are.awaits }) is
 
 -- and stands where it stood
 pub played_asked : (s : Script) (l : StageLooper) (parts : Parts) (g : Pass) (r : Option ℕ) → l.parts ≡ Some parts → AskedBy parts.frames g r
     → HasPlayedBy s l (record { number = l.number; sender = l.sender; looper = l.looper; parts = Some (record parts { frames = g }); last = l.last; dispatched = l.dispatched })
-played_asked s l parts g r e asked = λ going text did a come. record {
-  did = did;
-  state = a;
-  alike = come.0;
-  stands =
-      (let st : StandsBy false s l.number l.sender l.looper.held.poster.view.seen l.looper.held.journal.acts parts did a =
-      subst (λ (o : Option Parts). IsSomeAnd o (λ ps. StandsBy false s l.number l.sender l.looper.held.poster.view.seen l.looper.held.journal.acts ps did a)) e come.1 in
+played_asked s l parts g r e asked = λ going text a come. (
+  a,
+  (let st : StandsBy false s l.number l.sender l.looper.held.poster.view.seen l.looper.held.journal.acts parts a =
+      subst (λ (o : Option Parts). IsSomeAnd o (λ ps. StandsBy false s l.number l.sender l.looper.held.poster.view.seen l.looper.held.journal.acts ps a)) e come in
       let grew : IsPrefix parts.frames.view.seen g.view.seen = turn_grew parts.frames g asked.0 asked.0 asked.1 in
       record {
         led = λ fs begins law. st.led fs (prefix_trans parts.frames.view.seen g.view.seen fs grew begins) law;
         place = (let le = st.place in let longer = prefix_length parts.frames.view.seen g.view.seen grew in omega (arith, le, longer));
         last = last_quietly a.place parts.frames.view.seen g.view.seen (turn_quiet parts.frames g asked.0 asked.0 asked.1 refl st.latest_is.key st.latest_is.constants st.latest_is.alone) st.place st.last;
-        moments = λ is fs begins law. st.moments is fs (prefix_trans parts.frames.view.seen g.view.seen fs grew begins) law;
-        whole = λ fs begins law. st.whole fs (prefix_trans parts.frames.view.seen g.view.seen fs grew begins) law;
-        ran = ap (λ l. map (as_told false) (asks_in l)) (asked_records parts.frames g r asked) ∙ st.ran;
         settled = st.settled;
         latest_is = turn_keeps_latest parts.frames g asked.0 asked.0 asked.1 refl refl a.stamp a.awaits st.latest_is;
         awaits_is = st.awaits_is;
         in_time = λ is. absurd (let wrong : false ≡ true = is in cc);
-        played = record { shown = st.played.shown; elsewhere = st.played.elsewhere; fired = st.played.fired; counts = st.played.counts };
-      });
-}
+        played = record {
+          shown = record {
+            calls = st.played.shown.calls;
+            asked = ap (λ l. map (as_told false) (asks_in l)) (asked_records parts.frames g r asked) ∙ st.played.shown.asked;
+            stands = st.played.shown.stands;
+          };
+          elsewhere = st.played.elsewhere;
+          fired = st.played.fired;
+          counts = st.played.counts;
+        };
+      }),
+)
 
 -- by the pulse that its own pass found
 pub pulse_asked : (o : Option Parts) (parts : Parts) (g : Pass) (stamp pulse : Option ℕ) → o ≡ Some parts → AskedBy parts.frames g stamp → pulse ≡ option_map millis_up stamp
@@ -80,12 +83,12 @@ posters_asked l parts e = ap (λ (o : Option Parts). insert (others_in o) l.numb
 
 -- a looper that has done nothing since
 pub played_self : (s : Script) (l : StageLooper) → HasPlayedBy s l l
-played_self s l = λ going text did a come. from l.parts did a come.0 come.1
+played_self s l = λ going text a come. from l.parts a come
   where
-    from : (o : Option Parts) (did a : LooperState) → AreAlike did a → IsSomeAnd o (λ parts. StandsBy false s l.number l.sender l.looper.held.poster.view.seen l.looper.held.journal.acts parts did a)
-        → IsSomeAnd o (ComesBy s l.number l.sender l.looper.held.poster.view.seen l.looper.held.journal.acts)
-    from None did a alike h = absurd h
-    from (Some parts) did a alike h = record { did = did; state = a; alike = alike; stands = h }
+    from : (o : Option Parts) (a : LooperState) → IsSomeAnd o (λ parts. StandsBy false s l.number l.sender l.looper.held.poster.view.seen l.looper.held.journal.acts parts a)
+        → IsSomeAnd o (StandsSomewhere s l.number l.sender l.looper.held.poster.view.seen l.looper.held.journal.acts)
+    from None a h = absurd h
+    from (Some parts) a h = (a, h)
 
 pub grown_self : (l : StageLooper) → StaysTold l l
 grown_self l = λ going. record { seen = prefix_self l.looper.held.poster.view.seen; acts = prefix_self l.looper.held.journal.acts }

@@ -1,4 +1,4 @@
--- A looper whose passes of its choreographer hear others.
+-- A looper whose pass of its choreographer hears others.
 use Rattle.std.proofs.Common.{◌≡◌, [], Option, Some, None, refl, sym, ap, ◌∙◌, subst}
 use Rattle.std.specs.Prelude.{IsSome, is_some}
 use Rattle.std.proofs.lemmas.Option.{same_Some}
@@ -7,7 +7,6 @@ use Rattle.choreographer.specs.Known.{Pass}
 use Rattle.choreographer.specs.Turn.{made_entries}
 use Rattle.dash_hall.specs.Hearing.{HasHeardAll}
 use Rattle.dash_hall.proofs.PassesHearing.{pass_heard_self, pass_heard_then}
-use Rattle.dash_loopers.specs.declared.view_root.ViewRoot.{ViewRoot}
 use Rattle.dash_loopers.specs.declared.player.Parts.{Parts}
 use Rattle.dash_loopers.specs.Loopers.{LooperRest, RestHasHeard, MayHaveHeard, rest_in}
 
@@ -20,7 +19,7 @@ unheard_all p heard seen own = (
 
 -- the rest as it is
 pub rest_self : (r : LooperRest) → RestHasHeard r r
-rest_self r = record { frames = pass_heard_self r.frames; client = pass_heard_self r.root.pass; root = refl; fired = refl; passed = refl; awaits = refl }
+rest_self r = record { frames = pass_heard_self r.frames; root = refl; fired = refl; passed = refl; awaits = refl }
 
 pub may_self : (o : Option LooperRest) → MayHaveHeard o o
 may_self o r is = (r, is, rest_self r)
@@ -29,8 +28,7 @@ may_self o r is = (r, is, rest_self r)
 pub rest_then : (x y z : LooperRest) → RestHasHeard x y → RestHasHeard y z → RestHasHeard x z
 rest_then x y z f g = record {
   frames = pass_heard_then x.frames y.frames z.frames f.frames g.frames;
-  client = pass_heard_then x.root.pass y.root.pass z.root.pass f.client g.client;
-  root = g.root ∙ ap (λ (v : ViewRoot). record v { pass = z.root.pass }) f.root;
+  root = g.root ∙ f.root;
   fired = g.fired ∙ f.fired;
   passed = g.passed ∙ f.passed;
   awaits = g.awaits ∙ f.awaits;

@@ -24,7 +24,7 @@ use Rattle.dash_loopers.proofs.LooperLists.{at_removed, within_removed, map_set_
 pub frame_of_badge : (n : ℕ) (p : Pass) (c : SharedFrames) → frame_badge_of p ≡ frame_badge_for n c → IsPassOf p c
 frame_of_badge n p c e = (ap (λ (b : FrameBadge). b.table) e, ap (λ (b : FrameBadge). b.constants) e)
 
-pub of_badge : (k : ℕ) (p : Sender) (q : Shared TableId) → badge_of p ≡ badge_for k q → IsOf p q
+of_badge : (k : ℕ) (p : Sender) (q : Shared TableId) → badge_of p ≡ badge_for k q → IsOf p q
 of_badge k p q e = (ap (λ (b : Badge). b.table) e, ap (λ (b : Badge). b.constants) e)
 
 module _ (s : Script) (hall : Hall) (n : ℕ) (l : IsLooperOf s hall n) where
@@ -63,7 +63,7 @@ module _ (s : Script) (hall : Hall) (n : ℕ) (l : IsLooperOf s hall n) where
   pub its_period : (c : SharedFrames) → slice_get hall.choreographers.items n ≡ Some c → c.constants.interval ≡ s.period
   its_period c at = ap (λ k. k.interval) (frame_constants_are c at)
 
-  -- its first pass may deliver the pulses, and nobody else
+  -- its pass may deliver the pulses, and nobody else
   its_pulses : (c : SharedFrames) → slice_get hall.choreographers.items n ≡ Some c → c.constants.pulses ≡ Some s.threads
   its_pulses c at = ap (λ k. k.pulses) (frame_constants_are c at)
 
@@ -92,17 +92,16 @@ up_to_three edition = go (edition == 2)
     go false = omega arith
 
 pub parts_self : (a : Parts) → AreSameParts a a
-parts_self a = record { others = refl; frames = refl; client = refl; awaits = λ may. may }
+parts_self a = record { others = refl; frames = refl; awaits = λ may. may }
 
 pub parts_then : (a b c : Parts) → AreSameParts a b → AreSameParts b c → AreSameParts a c
-parts_then a b c p q = record { others = q.others ∙ p.others; frames = q.frames ∙ p.frames; client = q.client ∙ p.client; awaits = λ may. q.awaits (p.awaits may) }
+parts_then a b c p q = record { others = q.others ∙ p.others; frames = q.frames ∙ p.frames; awaits = λ may. q.awaits (p.awaits may) }
 
 -- a looper's parts stay its parts where they are the same
 pub are_parts_then : (s : Script) (hall : Hall) (n : ℕ) (a b : Parts) → AreSameParts a b → ArePartsOf s hall n a → ArePartsOf s hall n b
 are_parts_then s hall n a b p h = record {
   others = p.others ∙ h.others;
   frames = λ c at. p.frames ∙ h.frames c at;
-  client = λ c at. p.client ∙ h.client c at;
   awaits = p.awaits h.awaits;
 }
 
@@ -141,20 +140,19 @@ module _ (s : Script) (hall : Hall) (n place j : ℕ) (parts : Parts) (l : IsLoo
   other_of_read p q k at long read = other_of s hall n place j parts p q l are w at (slice_get_read hall.queues.items k place q long (subst (λ (m : ℕ). place < m) (sym long) near) read)
 
 -- the parts are the same with another poster of the same badge
-pub parts_with : (a : Parts) (j : ℕ) (p q : Sender) (b : Parts) → slice_get a.others.items j ≡ Some p → badge_of q ≡ badge_of p → b.others.items ≡ set a.others.items j q → b.frames ≡ a.frames → b.root ≡ a.root → b.awaits ≡ a.awaits → AreSameParts a b
-parts_with a j p q b at e others frames root awaits = record {
+pub parts_with : (a : Parts) (j : ℕ) (p q : Sender) (b : Parts) → slice_get a.others.items j ≡ Some p → badge_of q ≡ badge_of p → b.others.items ≡ set a.others.items j q → b.frames ≡ a.frames → b.awaits ≡ a.awaits → AreSameParts a b
+parts_with a j p q b at e others frames awaits = record {
   others = ap (map badge_of) others ∙ map_set_same badge_of a.others.items j p q at e;
   frames = ap frame_badge_of frames;
-  client = ap (λ r. frame_badge_of r.pass) root;
   awaits = λ may waits. subst (λ (f : Pass). IfAlone f (f.view.awaits ≡ 1)) (sym frames) (may (sym awaits ∙ waits));
 }
 
 -- ---- by the place where its code runs
 
 module _ {R : Type 0} (place : Place R) (parts : Parts) (w : Workplace) (serves : ServesAt place.script.now place.hall.now place.looper parts w) where
-  -- the view root's pass is one of its choreographer, which has the phases up to 3
-  pub client_on : (c : SharedFrames) → slice_get place.hall.now.choreographers.items place.looper ≡ Some c → IsPassOf parts.root.pass c × (3 < c.constants.phases)
-  client_on c at = (
-    frame_of_badge (place.script.now.threads + 1) parts.root.pass c (serves.are_parts.client c at),
+  -- its pass is one of its choreographer, which has the phases up to 3
+  pub pass_on : (c : SharedFrames) → slice_get place.hall.now.choreographers.items place.looper ≡ Some c → IsPassOf parts.frames c × (3 < c.constants.phases)
+  pass_on c at = (
+    frame_of_badge place.script.now.threads parts.frames c (serves.are_parts.frames c at),
     (let phases = its_phases place.script.now place.hall.now place.looper serves.looper c at in omega (arith, phases, up_to_three place.script.now.edition)),
   )

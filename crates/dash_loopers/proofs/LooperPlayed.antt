@@ -1,5 +1,5 @@
 -- Where a looper stands as it begins, as a round of it begins and ends, and at its end.
-use Rattle.std.proofs.Common.{◌≡◌, ℕ, ◌<◌, ◌≤◌, ◌⊎◌, inl, inr, true, false, List, [], ◌∷◌, ◌+◌, map, length, get_or, replicate, Option, Some, None, refl, sym, ap, ◌∙◌, subst, arith, eq-eqb}
+use Rattle.std.proofs.Common.{◌≡◌, ℕ, ◌<◌, ◌≤◌, ◌⊎◌, inl, inr, Bool, true, false, List, [], ◌∷◌, ◌+◌, map, length, get_or, replicate, Option, Some, None, refl, sym, ap, ◌∙◌, subst, arith, eq-eqb}
 use Rattle.std.specs.Prelude.{slice_index_or}
 use Rattle.std.specs.List.{insert, remove, filter_map, list_any}
 use Rattle.loop_model.specs.Base.{empty_base}
@@ -22,20 +22,18 @@ use Rattle.looper_run.specs.Tests.{Passes, IsSameLooper}
 use Rattle.choreographer.specs.Known.{Pass}
 use Rattle.run_model.specs.Planned.{entries_by, AreFor, sender_count}
 use Rattle.run_model.specs.Loopers.{LooperState, first_looper, ActsLead, IsSent, pulse_stamp, has_frames, pulses_come_first}
-use Rattle.run_model.specs.Parts.{sent_on, asks_to_run}
+use Rattle.run_model.specs.Parts.{sent_on}
 use Rattle.dash_hall.specs.declared.hall.Hall.{Hall}
 use Rattle.dash_hall.specs.declared.kit.Kit.{Kit}
 use Rattle.dash_hall.specs.Kits.{IsHall, AreUnseen}
 use Rattle.dash_hall.specs.Growth.{own}
-use Rattle.dash_hall.specs.Hosts.{pass_asks}
 use Rattle.run_model.specs.FrameRecords.{asks_in, as_told, is_begin, nanos_of}
-use Rattle.dash_hall.proofs.FramePosts.{told_whole}
 use Rattle.dash_loopers.specs.declared.player.Parts.{Parts}
 use Rattle.dash_loopers.specs.declared.looper.StageLooper.{StageLooper}
 use Rattle.dash_loopers.specs.Players.{Owner}
 use Rattle.dash_loopers.specs.Loopers.{IsLooper, IsSoundOn, is_given_up}
-use Rattle.dash_loopers.specs.Played.{standing, gauge_fixed, fixed_by, IsBarrierOf, paint_of, calls_in, calls_of, IsPlayed, StandsBy, Stands, StandsBetweenRounds, StandsBetweenLoops, ComesTo, IsPlaying, HasPlayed, HasLeft, HasLatest}
-use Rattle.dash_loopers.proofs.OpenTimes.{alike_self}
+use Rattle.dash_loopers.specs.Played.{standing, gauge_fixed, fixed_by, IsBarrierOf, paint_of, calls_in, calls_of, IsPlayed, StandsBy, StandsBetweenRounds, StandsBetweenLoops, ComesTo, IsPlaying, HasPlayed, PassHasAsked, HasLeft, HasLatest}
+use Rattle.dash_loopers.proofs.LooperAsks.{asked_whole}
 use Rattle.dash_loopers.proofs.LooperSeats.{its_place, at_other, within_others}
 use Rattle.dash_loopers.proofs.LooperKits.{looper_of, parts_of, others_many, own_again}
 
@@ -51,15 +49,12 @@ unseen_without xs n within unseen = λ j d near. by_order j d near (cases_lt j n
 -- a looper that has done nothing stands at the first state
 pub stands_first : (s : Script) (q k : ℕ) (seen : List Entry) (acts : List Act) (parts : Parts) → seen ≡ [] → acts ≡ []
     → map standing parts.root.gauges.items ≡ replicate (length s.gauges) (record { value = 0; target = 0; animating = false }) → map gauge_fixed parts.root.gauges.items ≡ map (fixed_by s q) s.gauges
-    → parts.root.barrier ≡ None → parts.root.painted.items ≡ [] → parts.root.edition ≡ s.edition → AreUnseen parts.others.items → parts.fired.items ≡ replicate (length s.rules) 0 → parts.root.pass.view.own ≡ [] → parts.root.pass.view.turns ≡ 0 → parts.frames.view.own ≡ [] → HasLatest parts.frames 0 false → parts.awaits ≡ false → parts.frames.view.seen ≡ []
-    → Stands s q k seen acts parts (first_looper s)
-stands_first s q k seen acts parts none still gauges lines barrier painted edition unseen fired unasked untaken unrun unpulsed unawaited unseen_frames = record {
+    → parts.root.barrier ≡ None → parts.root.painted.items ≡ [] → parts.root.edition ≡ s.edition → AreUnseen parts.others.items → parts.fired.items ≡ replicate (length s.rules) 0 → parts.frames.view.own ≡ [] → HasLatest parts.frames 0 false → parts.awaits ≡ false → parts.frames.view.seen ≡ []
+    → StandsBy true s q k seen acts parts (first_looper s)
+stands_first s q k seen acts parts none still gauges lines barrier painted edition unseen fired unasked unpulsed unawaited unseen_frames = record {
   led = λ fs begins law. subst (λ (xs : List Act). ActsLead s q seen fs (first_looper s) xs (first_looper s)) (sym still) refl;
   place = omega arith;
   last = ap (list_any is_begin) unseen_frames;
-  moments = λ is fs begins law. refl;
-  whole = λ fs begins law. refl;
-  ran = ap (λ l. map (as_told true) (asks_in l)) unrun;
   settled = refl;
   latest_is = unpulsed;
   awaits_is = unawaited;
@@ -67,11 +62,10 @@ stands_first s q k seen acts parts none still gauges lines barrier painted editi
     up_to = ap (has_later (nanos_of (clock (empty_base (sender_count s)) seen))) unseen_frames;
     pulses = ap (λ (xs : List Act). length (filter_map pulse_stamp xs)) still;
   };
-  played = subst (λ (es : List Entry). IsPlayed s q (calls_in k es) parts (first_looper s)) (sym none) (record {
+  played = subst (λ (es : List Entry). IsPlayed true s q (calls_in k es) parts (first_looper s)) (sym none) (record {
     shown = record {
       calls = tt;
-      asked = ap asks_in unasked;
-      turns = untaken;
+      asked = ap (λ l. map (as_told true) (asks_in l)) unasked;
       stands = record {
         edition = edition;
         gauges = gauges;
@@ -88,26 +82,32 @@ stands_first s q k seen acts parts none still gauges lines barrier painted editi
 }
 
 -- where a looper stands in lockstep it stands as free mode tells it
-pub stands_free : (s : Script) (q k : ℕ) (es : List Entry) (acts : List Act) (parts : Parts) (a : LooperState) → Stands s q k es acts parts a → StandsBy false s q k es acts parts a a
+pub stands_free : (s : Script) (q k : ℕ) (es : List Entry) (acts : List Act) (parts : Parts) (a : LooperState) → StandsBy true s q k es acts parts a → StandsBy false s q k es acts parts a
 stands_free s q k es acts parts a st = record {
   led = st.led;
   place = st.place;
   last = st.last;
-  moments = λ is. absurd (let wrong : false ≡ true = is in cc);
-  whole = st.whole;
-  ran = ap (map (as_told false)) (sym (told_whole (pass_asks parts.frames)) ∙ (st.ran ∙ told_whole (asks_to_run a.frames)));
   settled = st.settled;
   latest_is = st.latest_is;
   awaits_is = st.awaits_is;
   in_time = λ is. absurd (let wrong : false ≡ true = is in cc);
-  played = st.played;
+  played = record {
+    shown = record {
+      calls = st.played.shown.calls;
+      asked = ap (map (as_told false)) (asked_whole parts.frames a.asked st.played.shown.asked);
+      stands = st.played.shown.stands;
+    };
+    elsewhere = st.played.elsewhere;
+    fired = st.played.fired;
+    counts = st.played.counts;
+  };
 }
 
-pub comes_free : (s : Script) (l : StageLooper) (a : LooperState) → StandsBetweenRounds s l a → StandsBetweenLoops s l a a
-comes_free s l a come = (alike_self a, from l.parts come.0)
+pub comes_free : (s : Script) (l : StageLooper) (a : LooperState) → StandsBetweenRounds s l a → StandsBetweenLoops s l a
+comes_free s l a come = from l.parts come.0
   where
-    from : (o : Option Parts) → IsSomeAnd o (λ parts. Stands s l.number l.sender l.looper.held.poster.view.seen l.looper.held.journal.acts parts a)
-        → IsSomeAnd o (λ parts. StandsBy false s l.number l.sender l.looper.held.poster.view.seen l.looper.held.journal.acts parts a a)
+    from : (o : Option Parts) → IsSomeAnd o (λ parts. StandsBy true s l.number l.sender l.looper.held.poster.view.seen l.looper.held.journal.acts parts a)
+        → IsSomeAnd o (λ parts. StandsBy false s l.number l.sender l.looper.held.poster.view.seen l.looper.held.journal.acts parts a)
     from None h = absurd h
     from (Some parts) h = stands_free s l.number l.sender l.looper.held.poster.view.seen l.looper.held.journal.acts parts a h
 
@@ -139,39 +139,43 @@ played_left s now l d after last p q same h = λ going.
 
 -- ---- at its end
 
--- what it leaves tells where it stood
-pub left_by : (s : Script) (hall : Hall) (l : StageLooper) (parts : Parts) (j : Journal) (kit : Kit) → IsHall s hall → IsLooper s hall l → l.parts ≡ Some parts
-    → kit.posters.items ≡ insert parts.others.items l.number l.looper.held.poster → kit.frames.items ≡ parts.frames ∷ parts.root.pass ∷ [] → j ≡ l.looper.held.journal
-    → (a : LooperState) → StandsBetweenRounds s l a → HasLeft s l.number j kit a
-left_by s hall l parts j kit is_hall is e posters frames journal a come = record {
-  led = λ d p fs begins law.
-      subst (λ (x : Sender). ActsLead s l.number x.view.seen fs (first_looper s) j.acts a) (sym (mine d))
-      (subst (λ (x : Journal). ActsLead s l.number l.looper.held.poster.view.seen fs (first_looper s) x.acts a) (sym journal)
-      (st.led fs (subst (λ (ps : List Pass). IsPrefix (slice_index_or ps 0 p).view.seen fs) frames begins) law));
-  moments = λ p fs begins law. st.moments refl fs (subst (λ (ps : List Pass). IsPrefix (slice_index_or ps 0 p).view.seen fs) frames begins) law;
-  pulses = λ d sound.
-      subst (λ (x : Journal). has_frames x.acts a ≡ true) (sym journal)
-      (eq-eqb _ _ (st.in_time refl (subst (λ (x : Sender). IsSoundOn s l.number x.view.seen) (mine d) sound)).pulses);
-  pulses_first = subst (λ (x : Journal). pulses_come_first x.acts ≡ true) (sym journal) come.1.first;
-  whole = λ p fs begins law. st.whole fs (subst (λ (ps : List Pass). IsPrefix (slice_index_or ps 0 p).view.seen fs) frames begins) law;
-  settled = st.settled;
-  calls = λ d. subst (λ (x : Sender). AreFor IsSent [] (sent_on l.number a.sent) (calls_of x)) (sym (mine d))
-      (subst (λ (k : ℕ). AreFor IsSent [] (sent_on l.number a.sent) (calls_in k l.looper.held.poster.view.seen)) (sym is.own) st.played.shown.calls);
-  elsewhere = λ k d apart near.
-      let w = its_place l.number k apart in
-      let within : k < length (insert parts.others.items l.number l.looper.held.poster) = subst (λ (ps : List Sender). k < length ps) posters near in
-      subst (λ (x : Sender). AreFor IsSent [] (sent_on k a.sent) (own x)) (sym (ap (λ (ps : List Sender). get_or ps k d) posters ∙ at_other parts.others.items l.number many l.looper.held.poster d k w.0 w.1))
-      (st.played.elsewhere k w.0 d w.1 (within_others parts.others.items l.number many l.looper.held.poster k w.0 w.1 within));
-  asked = λ p. ap (λ (ps : List Pass). pass_asks (slice_index_or ps 1 p)) frames ∙ st.played.shown.asked;
-  turns = λ p. ap (λ (ps : List Pass). (slice_index_or ps 1 p).view.turns) frames ∙ st.played.shown.turns;
-  ran = λ p. ap (λ (ps : List Pass). pass_asks (slice_index_or ps 0 p)) frames ∙ (sym (told_whole (pass_asks parts.frames)) ∙ (st.ran ∙ told_whole (asks_to_run a.frames)));
-}
-  where
-    st : Stands s l.number l.sender l.looper.held.poster.view.seen l.looper.held.journal.acts parts a
-    st = subst (λ (o : Option Parts). IsSomeAnd o (λ ps. Stands s l.number l.sender l.looper.held.poster.view.seen l.looper.held.journal.acts ps a)) e come.0
+module _ (s : Script) (hall : Hall) (l : StageLooper) (parts : Parts) (j : Journal) (kit : Kit) (is_hall : IsHall s hall) (is : IsLooper s hall l) (e : l.parts ≡ Some parts)
+    (posters : kit.posters.items ≡ insert parts.others.items l.number l.looper.held.poster) (frames : kit.frames.items ≡ parts.frames ∷ []) (journal : j ≡ l.looper.held.journal) where
+  many : l.number ≤ length parts.others.items
+  many = others_many s hall l.number (looper_of s hall l is_hall is) parts (parts_of s hall l parts is e)
 
-    many : l.number ≤ length parts.others.items
-    many = others_many s hall l.number (looper_of s hall l is_hall is) parts (parts_of s hall l parts is e)
+  mine : (d : Sender) → get_or kit.posters.items l.number d ≡ l.looper.held.poster
+  mine d = own_again s hall l parts kit.posters.items is_hall is e posters d
 
-    mine : (d : Sender) → get_or kit.posters.items l.number d ≡ l.looper.held.poster
-    mine d = own_again s hall l parts kit.posters.items is_hall is e posters d
+  -- what it leaves tells where it stood, in its mode
+  left_in : (lockstep : Bool) (a : LooperState) → StandsBy lockstep s l.number l.sender l.looper.held.poster.view.seen l.looper.held.journal.acts parts a
+      → (lockstep ≡ true → pulses_come_first l.looper.held.journal.acts ≡ true) → HasLeft lockstep s l.number j kit a
+  left_in lockstep a st first = record {
+    led = λ d p fs begins law.
+        subst (λ (x : Sender). ActsLead s l.number x.view.seen fs (first_looper s) j.acts a) (sym (mine d))
+        (subst (λ (x : Journal). ActsLead s l.number l.looper.held.poster.view.seen fs (first_looper s) x.acts a) (sym journal)
+        (st.led fs (subst (λ (ps : List Pass). IsPrefix (slice_index_or ps 0 p).view.seen fs) frames begins) law));
+    pulses = λ d locked sound.
+        subst (λ (x : Journal). has_frames x.acts a ≡ true) (sym journal)
+        (eq-eqb _ _ (st.in_time locked (subst (λ (x : Sender). IsSoundOn s l.number x.view.seen) (mine d) sound)).pulses);
+    pulses_first = λ locked. subst (λ (x : Journal). pulses_come_first x.acts ≡ true) (sym journal) (first locked);
+    settled = st.settled;
+    calls = λ d. subst (λ (x : Sender). AreFor IsSent [] (sent_on l.number a.sent) (calls_of x)) (sym (mine d))
+        (subst (λ (k : ℕ). AreFor IsSent [] (sent_on l.number a.sent) (calls_in k l.looper.held.poster.view.seen)) (sym is.own) st.played.shown.calls);
+    elsewhere = λ k d apart near.
+        let w = its_place l.number k apart in
+        let within : k < length (insert parts.others.items l.number l.looper.held.poster) = subst (λ (ps : List Sender). k < length ps) posters near in
+        subst (λ (x : Sender). AreFor IsSent [] (sent_on k a.sent) (own x))
+        (sym (ap (λ (ps : List Sender). get_or ps k d) posters ∙ at_other parts.others.items l.number many l.looper.held.poster d k w.0 w.1))
+        (st.played.elsewhere k w.0 d w.1 (within_others parts.others.items l.number many l.looper.held.poster k w.0 w.1 within));
+    asked = λ p. subst (λ (ps : List Pass). PassHasAsked lockstep (slice_index_or ps 0 p) a.asked) (sym frames) st.played.shown.asked;
+  }
+
+  pub has_left : (a : LooperState) → StandsBetweenRounds s l a → HasLeft true s l.number j kit a
+  has_left a come = left_in true a
+      (subst (λ (o : Option Parts). IsSomeAnd o (λ ps. StandsBy true s l.number l.sender l.looper.held.poster.view.seen l.looper.held.journal.acts ps a)) e come.0) (λ locked. come.1.first)
+
+  pub has_left_by : (a : LooperState) → StandsBetweenLoops s l a → HasLeft false s l.number j kit a
+  has_left_by a come = left_in false a
+      (subst (λ (o : Option Parts). IsSomeAnd o (λ ps. StandsBy false s l.number l.sender l.looper.held.poster.view.seen l.looper.held.journal.acts ps a)) e come)
+      (λ locked. absurd (let wrong : false ≡ true = locked in cc))

@@ -1,7 +1,5 @@
 -- In a round a looper goes on from where it stood: what keeps that it has, and what a round leaves of it.
-use Rattle.choreographer.proofs.Quiet.{grows_self}
-use Rattle.dash_loopers.proofs.LatestPulses.{still_in_time}
-use Rattle.std.proofs.Common.{◌≡◌, ℕ, ◌<◌, ◌≤◌, ◌⊎◌, inl, max, true, false, List, [], ◌∷◌, ◌++◌, Option, Some, None, refl, sym, ap, ◌∙◌, subst, arith, append_assoc}
+use Rattle.std.proofs.Common.{◌≡◌, ℕ, ◌<◌, ◌≤◌, ◌⊎◌, inl, max, eqb-true, true, false, List, [], ◌∷◌, ◌++◌, Option, Some, None, refl, sym, ap, ◌∙◌, subst, arith, append_assoc}
 use Rattle.std.specs.Prelude.{◌==◌, Bool, Result, Ok, Err, is_ok, OnOk, is_some, not, ◌&&◌}
 use Rattle.std.specs.List.{AllByRecursion, Contains}
 use Rattle.std.specs.Option.{IsSomeAnd}
@@ -23,63 +21,57 @@ use Rattle.loop_model.specs.Posts.{post_at}
 use Rattle.looper_run.specs.Tests.{Passes, PassesWith, IsLent, IsTake, HasTakenMessage, Unless, Intercepts}
 use Rattle.looper_run.specs.declared.dispatcher.Did.{Did}
 use Rattle.looper_run.specs.declared.dispatcher.Did.TheVariants.{Yes, No, NoMemory}
-use Rattle.loop_model.proofs.Prefixes.{prefix_self}
 use Rattle.run_model.specs.Control.{At}
-use Rattle.run_model.specs.FrameRecords.{FrameAt, nanos_of, FrameAsk}
-use Rattle.run_model.specs.Loopers.{LooperState, SentCall, after_dispatch, starts_frame}
-use Rattle.dash_hall.specs.Hosts.{pass_asks}
+use Rattle.run_model.specs.FrameRecords.{nanos_of, FrameAsk}
+use Rattle.run_model.specs.Loopers.{LooperState, SentCall, starts_frame}
 use Rattle.dash_loopers.specs.declared.player.Parts.{Parts}
 use Rattle.dash_loopers.specs.declared.looper.StageLooper.{StageLooper}
-use Rattle.dash_loopers.specs.Played.{calls_in, calls_of, IsPlayed, Delivers, looper_pulsed, Stands, IsTimedBy, HasLookedAt, IsAskedDueAt, IsPostedBy, GoesOnTo, ComesTo, IsPlaying, HasPlayed}
+use Rattle.dash_loopers.specs.Played.{calls_in, calls_of, MayTellDelivery, Delivers, looper_pulsed, StandsBy, IsTimedBy, IsAskedAt, IsAskedBy, GoesOnTo, ComesTo, IsPlaying, HasPlayed}
 use Rattle.dash_loopers.specs.PlayingLaws.{goes_nowhere, comes_on}
 use Rattle.dash_loopers.specs.PulsesFirst.{TellsPulsesFirst}
 use Rattle.dash_loopers.proofs.PulsesOnTime.{ComesThen, PulsesThen}
 use Rattle.dash_loopers.proofs.FirstPulses.{first_pulsed, first_dispatched}
-use Rattle.dash_loopers.proofs.LooperStands.{stands_pulse, by_dispatch, told_dispatch, sends_dispatch, posts_dispatch, frames_dispatch, stands_dispatch}
-use Rattle.dash_loopers.proofs.PlaySteps.{waits_still}
+use Rattle.dash_loopers.proofs.LooperStands.{stands_pulse, by_dispatch, told_dispatch, sends_dispatch, asks_dispatch, taken_delivers, stands_dispatch}
+use Rattle.dash_loopers.proofs.PlaySteps.{still_delivered}
 use Rattle.std.proofs.Math.Bool.{and-false}
 use Rattle.run_model.specs.Planned.{frame_handler}
 
 -- ---- calls more, and looks more
 
-goes_one : (q k : ℕ) (looks : List Entry) (now : ℕ) (a b : LooperState) (x : SentCall) → b.sent ≡ a.sent ++ x ∷ [] → b.posted ≡ a.posted → b.frames ≡ a.frames
+goes_one : (q k : ℕ) (looks : List Entry) (now : ℕ) (a b : LooperState) (x : SentCall) → b.sent ≡ a.sent ++ x ∷ [] → b.asked ≡ a.asked
     → IsTimedBy q k looks now x.queue x.timing → GoesOnTo q k looks now a b
-goes_one q k looks now a b x sent posted frames timed = record {
+goes_one q k looks now a b x sent asked timed = record {
   more = x ∷ [];
   sent = sent;
   timed = All-cons (λ y. IsTimedBy q k looks now y.queue y.timing) x [] timed (All-nil (λ y. IsTimedBy q k looks now y.queue y.timing));
-  posts = [];
-  posted = posted ∙ sym (append-nil a.posted);
-  posted_then = All-nil (IsPostedBy k looks);
-  ran = [];
-  frames = frames ∙ sym (append-nil a.frames);
-  ran_then = All-nil (λ (y : FrameAt). HasLookedAt k looks y.now);
+  asks = [];
+  asked = asked ∙ sym (append-nil a.asked);
+  asked_then = All-nil (IsAskedBy k looks);
 }
 
 -- a pulse that came comes now
 goes_pulsed : (k q : ℕ) (looks : List Entry) (now : ℕ) (stamp : Option ℕ) (a : LooperState) → ComesThen now stamp → GoesOnTo q k looks now a (looper_pulsed q stamp a)
 goes_pulsed k q looks now None a is = goes_nowhere q k looks now a
-goes_pulsed k q looks now (Some stamp) a is = goes_one q k looks now a (looper_pulsed q (Some stamp) a) _ refl refl refl (is, refl)
+goes_pulsed k q looks now (Some stamp) a is = goes_one q k looks now a (looper_pulsed q (Some stamp) a) _ refl refl (is, refl)
 
--- calls, callbacks and frames at the moment of a look
+-- calls and asks at the moment of a look
 goes_looked : (q k : ℕ) (looks : List Entry) (now time : ℕ) (e : Entry) (a b : LooperState) → Contains looks e → e.sender ≡ k → e.call ≡ Next time
     → (more : List SentCall) × (b.sent ≡ a.sent ++ more) × AllByRecursion (λ x. x.timing ≡ At time) more
-    → (posts : List FrameAsk) × (b.posted ≡ a.posted ++ posts) × AllByRecursion (IsAskedDueAt time) posts
-    → (ran : List FrameAt) × (b.frames ≡ a.frames ++ ran) × AllByRecursion (λ x. x.now ≡ time) ran → GoesOnTo q k looks now a b
-goes_looked q k looks now time e a b among sender call m p r = record {
+    → (asks : List FrameAsk) × (b.asked ≡ a.asked ++ asks) × AllByRecursion (IsAskedAt time) asks → GoesOnTo q k looks now a b
+goes_looked q k looks now time e a b among sender call m p = record {
   more = m.0;
   sent = m.1;
   timed = All_indexed (λ x. IsTimedBy q k looks now x.queue x.timing) m.0
       (AllByRecursion-weaker (λ x. x.timing ≡ At time) (λ x. IsTimedBy q k looks now x.queue x.timing) (λ x is. subst (IsTimedBy q k looks now x.queue) (sym is) (e, among, sender, call)) m.0 m.2);
-  posts = p.0;
-  posted = p.1;
-  posted_then = All_indexed (IsPostedBy k looks) p.0
-      (AllByRecursion-weaker (IsAskedDueAt time) (IsPostedBy k looks) (λ x is. (time, (e, among, sender, call), is)) p.0 p.2);
-  ran = r.0;
-  frames = r.1;
-  ran_then = All_indexed (λ (x : FrameAt). HasLookedAt k looks x.now) r.0
-      (AllByRecursion-weaker (λ (x : FrameAt). x.now ≡ time) (λ x. HasLookedAt k looks x.now) (λ x is. subst (HasLookedAt k looks) (sym is) (e, among, sender, call)) r.0 r.2);
+  asks = p.0;
+  asked = p.1;
+  asked_then = All_indexed (IsAskedBy k looks) p.0
+      (AllByRecursion-weaker (IsAskedAt time) (IsAskedBy k looks) (λ x is. (time, (e, among, sender, call), is)) p.0 p.2);
 }
+
+-- in lockstep a delivery at a moment is told at that moment
+in_lockstep : (q time : ℕ) (m : PostData) → MayTellDelivery true q m time (λ n. n == nanos_of time) time
+in_lockstep q time m = record { rules = λ is. refl; time = λ is. refl; frame = λ is n passes. eqb-true n (nanos_of time) passes }
 
 module _ (s : Script) (q now : ℕ) (began : StageLooper) where
   -- a pulse was delivered now and told, or none came
@@ -91,7 +83,7 @@ module _ (s : Script) (q now : ℕ) (began : StageLooper) where
       subst (λ (n : ℕ). IsPlaying s q now began d n es' acts' parts') (sym same) (subst (λ (l : List Entry). IsPlaying s q now began d k l acts' parts') (sym saw) (λ text a come.
       (let c = meets text a come in
       let comes = at.1 c.stands.latest_is.key c.stands.latest_is.constants c.stands.latest_is.alone in
-      comes_on s q now a d d k began.looper.held.poster.view.seen es more acts acts' parts parts' c (looper_pulsed q here.stamp c.state) (first_pulsed d now here.stamp acts acts' early here.told comes c.first) (stands_pulse s q k now es more acts acts' parts parts' c.state c.state text here c.stands) (goes_pulsed k q more now here.stamp c.state comes))))
+      comes_on s q now a d d k began.looper.held.poster.view.seen es more acts acts' parts parts' c (looper_pulsed q here.stamp c.state) (first_pulsed d now here.stamp acts acts' early here.told comes c.first) (stands_pulse s q k now es more acts acts' parts parts' c.state text here c.stands) (goes_pulsed k q more now here.stamp c.state comes))))
 
   pub playing_pulse : (d : ℕ) (before after : Holding) (parts parts' : Parts) → (d < now) ⊎ (after.journal.acts ≡ before.journal.acts) → IsLent before after → PulsesThen s q now (calls_of before.poster) (calls_of after.poster) parts parts' before.journal.acts after.journal.acts
       → Passes (λ k es acts. IsPlaying s q now began d k es acts parts) before → Passes (λ k es acts. IsPlaying s q now began d k es acts parts') after
@@ -104,19 +96,18 @@ module _ (s : Script) (q now : ℕ) (began : StageLooper) where
       → IsPlaying s q now began kept k past acts parts → IsPlaying s q now began kept' k' es' (acts' ++ Dispatch n time route ∷ []) parts'
   dispatched_on kept kept' k k' n time m past es es' more e acts acts' route parts parts' rises within same seen saw take post d meets =
       let whole : es' ≡ (past ++ e ∷ []) ++ more = saw ∙ ap (λ (l : List Entry). l ++ more) seen in
-      let here : Delivers s q time (λ x. x == nanos_of time) m (calls_in k (past ++ e ∷ [])) (calls_in k ((past ++ e ∷ []) ++ more)) parts parts' acts acts' =
-      subst (λ l. Delivers s q time (λ x. x == nanos_of time) m l (calls_in k ((past ++ e ∷ []) ++ more)) parts parts' acts acts') (ap (calls_in k) seen) (subst (λ l. Delivers s q time (λ x. x == nanos_of time) m (calls_in k es) l parts parts' acts acts') (λ i. calls_in (same i) (whole i)) d) in
+      let here = taken_delivers s q k k' time (λ x. x == nanos_of time) m past es es' more e acts acts' parts parts' same seen saw d in
       subst (λ (j : ℕ). IsPlaying s q now began kept' j es' (acts' ++ Dispatch n time route ∷ []) parts') (sym same)
       (subst (λ (l : List Entry). IsPlaying s q now began kept' k l (acts' ++ Dispatch n time route ∷ []) parts') (sym (whole ∙ append_assoc past (e ∷ []) more)) (λ text a come.
       (let c = meets text a come in
-      let done = told_dispatch s q k n time time (λ x. x == nanos_of time) m past more e take acts acts' parts parts' here c.state c.state text c.stands.settled c.stands in
-      comes_on s q now a kept kept' k began.looper.held.poster.view.seen past (e ∷ more) acts (acts' ++ Dispatch n time route ∷ []) parts parts' c (by_dispatch s q k n time time (λ x. x == nanos_of time) m past more e take acts acts' parts parts' here c.state c.state)
+      let may = in_lockstep q time m in
+      let done = told_dispatch s q k n time time (λ x. x == nanos_of time) m past more e take acts acts' parts parts' here c.state text may c.stands in
+      comes_on s q now a kept kept' k began.looper.held.poster.view.seen past (e ∷ more) acts (acts' ++ Dispatch n time route ∷ []) parts parts' c (by_dispatch s q k n time time (λ x. x == nanos_of time) m past more e take acts acts' parts parts' here c.state)
       (first_dispatched kept kept' n time route acts acts' done.0 rises within done.1 done.2 c.first)
-      (subst (λ (l : List Entry). Stands s q k l (acts' ++ Dispatch n time route ∷ []) parts' (by_dispatch s q k n time time (λ x. x == nanos_of time) m past more e take acts acts' parts parts' here c.state c.state)) (append_assoc past (e ∷ []) more)
-      (stands_dispatch s q k n time time (λ x. x == nanos_of time) m past more e take acts acts' parts parts' here c.state c.state route (λ is. (refl, refl)) text post c.stands.settled refl c.stands))
-      (goes_looked q k (e ∷ more) now time e c.state _ (Contains-append_left (e ∷ []) more e (Contains-push [] e)) take.sender_is take.call (sends_dispatch s q k n time time (λ x. x == nanos_of time) m past more e take acts acts' parts parts' here c.state c.state)
-      (posts_dispatch s q k n time time (λ x. x == nanos_of time) m past more e take acts acts' parts parts' here c.state c.state)
-      (frames_dispatch s q k n time time (λ x. x == nanos_of time) m past more e take acts acts' parts parts' here c.state c.state)))))
+      (subst (λ (l : List Entry). StandsBy true s q k l (acts' ++ Dispatch n time route ∷ []) parts' (by_dispatch s q k n time time (λ x. x == nanos_of time) m past more e take acts acts' parts parts' here c.state)) (append_assoc past (e ∷ []) more)
+      (stands_dispatch s q k n time time (λ x. x == nanos_of time) m past more e take acts acts' parts parts' here c.state text may c.stands route post))
+      (goes_looked q k (e ∷ more) now time e c.state _ (Contains-append_left (e ∷ []) more e (Contains-push [] e)) take.sender_is take.call (sends_dispatch s q k n time time (λ x. x == nanos_of time) m past more e take acts acts' parts parts' here c.state)
+      (asks_dispatch s q k n time time (λ x. x == nanos_of time) m past more e take acts acts' parts parts' here c.state)))))
 
   pub playing_dispatch : (kept kept' time : ℕ) (node : Node) (route : Route) (before after : Holding) (parts parts' : Parts) → kept ≤ kept' → time ≤ kept' → IsLent before after
       → HasTakenMessage (λ k es acts. IsPlaying s q now began kept k es acts parts) before node time
@@ -127,23 +118,11 @@ module _ (s : Script) (q now : ℕ) (began : StageLooper) where
 
   -- a message with a callback causes nothing
   pub delivers_none : (time : ℕ) (is_moment : ℕ → Bool) (m : PostData) (id : ℕ) (made : List Entry) (parts : Parts) (acts : List Act) → m.callback ≡ Some id → Delivers s q time is_moment m made made parts parts acts acts
-  delivers_none time is_moment m id made parts acts callback = record {
-    ids = [];
-    ran = record { frame = None; start = 0; started = refl; framed = λ fs begins law. (refl, refl, refl, refl); within = omega arith; grew = prefix_self parts.frames.view.seen; asks = sym (append-nil (pass_asks parts.frames)); stamped = λ stamp waits has fs begins. refl; in_time = still_in_time is_moment parts.frames parts.frames (λ stamp waits has. has) (λ c e named. grows_self parts.frames.view.seen); last = λ c e named first le none. none };
-    starts = refl;
-    awaited = refl;
-    waits = waits_still q m parts parts quiet (λ stamp waits has. has) refl;
-    plays = λ text a settled played. (subst (IsPlayed s q made parts) (sym (same a settled)) played, sym (ap (λ (l : List Act). acts ++ l) (ap (λ (b : LooperState). b.painted) (nothing a) ∙ settled) ∙ append-nil acts));
-  }
+  delivers_none time is_moment m id made parts acts callback =
+      still_delivered s q time is_moment m made made parts parts acts acts (λ at a. a) refl refl quiet (λ at a. rw callback refl) (λ at a. refl) (λ text lockstep at may a is. is) refl
     where
       quiet : (parts.awaits && starts_frame q m) ≡ false
       quiet = ap (λ (o : Option ℕ). parts.awaits && (not (is_some o) && m.handler == frame_handler q && m.what == 0)) callback ∙ and-false parts.awaits
-
-      nothing : (a : LooperState) → after_dispatch s q time [] m a ≡ a
-      nothing a = rw callback refl
-
-      same : (a : LooperState) → a.painted ≡ [] → record (after_dispatch s q time [] m a) { painted = [] } ≡ a
-      same a settled = ap (λ (b : LooperState). record b { painted = [] }) (nothing a) ∙ (λ i. record a { painted = sym settled i })
 
 -- how a call was told that went well, or found no memory
 pub did_well : {A E : Type 0} (r : Result A E) (d : Did) (P : Type 0) → (d ≡ No → ⊥) → (d ≡ Yes → is_ok r ≡ true) → OnOk r P → Unless d P
@@ -186,14 +165,14 @@ module _ (s : Script) (q now : ℕ) (began : StageLooper) where
 -- ---- who begins, and who does nothing
 
 -- a looper goes on nowhere from where it stands
-comes_nowhere : (s : Script) (q now d k : ℕ) (es : List Entry) (acts : List Act) (parts : Parts) (a : LooperState) → Stands s q k es acts parts a → TellsPulsesFirst d acts → ComesTo s q now a d k es es acts parts
+comes_nowhere : (s : Script) (q now d k : ℕ) (es : List Entry) (acts : List Act) (parts : Parts) (a : LooperState) → StandsBy true s q k es acts parts a → TellsPulsesFirst d acts → ComesTo s q now a d k es es acts parts
 comes_nowhere s q now d k es acts parts a stands first = record { state = a; stands = stands; looks = []; saw = sym (append-nil es); on = goes_nowhere q k [] now a; first = first }
 
 -- one that did nothing has played
 pub plays_nothing : (s : Script) (now : ℕ) (l : StageLooper) → HasPlayed s now l l
 plays_nothing s now l going text a come = by_parts l.parts come.0
   where
-    by_parts : (o : Option Parts) → IsSomeAnd o (λ p. Stands s l.number l.sender l.looper.held.poster.view.seen l.looper.held.journal.acts p a)
+    by_parts : (o : Option Parts) → IsSomeAnd o (λ p. StandsBy true s l.number l.sender l.looper.held.poster.view.seen l.looper.held.journal.acts p a)
         → IsSomeAnd o (ComesTo s l.number now a l.dispatched l.sender l.looper.held.poster.view.seen l.looper.held.poster.view.seen l.looper.held.journal.acts)
     by_parts None h = absurd h
     by_parts (Some p) h = comes_nowhere s l.number now l.dispatched l.sender l.looper.held.poster.view.seen l.looper.held.journal.acts p a h come.1
@@ -204,4 +183,4 @@ pub plays_first : (s : Script) (now k : ℕ) (began l : StageLooper) (parts : Pa
 plays_first s now k began l parts is mine has = subst (λ (b : StageLooper). IsPlaying s l.number now b l.dispatched k l.looper.held.poster.view.seen l.looper.held.journal.acts parts) (sym is)
     (subst (λ (n : ℕ). IsPlaying s l.number now l l.dispatched n l.looper.held.poster.view.seen l.looper.held.journal.acts parts) (sym mine)
     (λ text a come. comes_nowhere s l.number now l.dispatched l.sender l.looper.held.poster.view.seen l.looper.held.journal.acts parts a
-    (subst (λ (o : Option Parts). IsSomeAnd o (λ p. Stands s l.number l.sender l.looper.held.poster.view.seen l.looper.held.journal.acts p a)) has come.0) come.1))
+    (subst (λ (o : Option Parts). IsSomeAnd o (λ p. StandsBy true s l.number l.sender l.looper.held.poster.view.seen l.looper.held.journal.acts p a)) has come.0) come.1))

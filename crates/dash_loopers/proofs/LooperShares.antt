@@ -196,7 +196,6 @@ module _ (s : Script) (hall : Hall) (is_hall : IsHall s hall) (l : StageLooper) 
         let are : ArePartsOf s hall l.number q.0 = record {
           others = ap (λ (o : Option Parts). map badge_of (others_in o)) (sym q.1) ∙ (others_kept ∙ (ap (λ (o : Option Parts). map badge_of (others_in o)) p.1 ∙ p.2.others));
           frames = λ c at. ap (λ (z : LooperRest). frame_badge_of z.frames) rest ∙ (pass_heard_badge r.frames heard.0.frames h.frames ∙ p.2.frames c at);
-          client = λ c at. ap (λ (z : LooperRest). frame_badge_of z.root.pass) rest ∙ (pass_heard_badge r.root.pass heard.0.root.pass h.client ∙ p.2.client c at);
           awaits = subst (λ (z : LooperRest). z.awaits ≡ true → IfAlone z.frames (z.frames.view.awaits ≡ 1)) (sym rest)
               (λ waits key has named.
               h.frames.same.awaits ∙ p.2.awaits (sym h.awaits ∙ waits) key (sym h.frames.same.constants ∙ has) (named ∙ ap (λ (n : ℕ). Some n) h.frames.same.number));

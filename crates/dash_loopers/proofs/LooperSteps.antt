@@ -1,4 +1,4 @@
--- What a looper's state gains by a step: calls at the step's moment, callbacks that are due then, and paints, and nothing at its place in the frame record, the frames that it ran or its latest pulse.
+-- What a looper's state gains by a step: calls at the step's moment, what it asks of its choreographer then, and paints, and nothing at its place in the frame record, the count of its frames or its latest pulse.
 use Rattle.std.proofs.Common.{◌≡◌, ℕ, ◌+◌, ◌-◌, Bool, true, false, List, [], ◌∷◌, ◌++◌, Option, Some, None, refl, sym, ap, ◌∙◌, append_assoc}
 use Rattle.std.specs.Prelude.{◌==◌, ◌||◌, nat_le, is_some, fold, slice_get, if◌then◌else◌}
 use Rattle.std.specs.List.{AllByRecursion, filter_map, cons_option, zip, enumerate_from}
@@ -11,37 +11,37 @@ use Rattle.loop_model.proofs.Sorting.{AllByRecursion-append}
 use Rattle.dash_script.specs.declared.script.Script.{Script}
 use Rattle.run_model.specs.Planned.{gauge_line, gauge_looper, frame_handler, animation_id, animation_phase, traversal_phase, traversal_id, Makes, frame_due}
 use Rattle.loop_model.specs.declared.call.Call.TheVariants.{Barrier}
-use Rattle.run_model.specs.FrameRecords.{FrameAsk, Posts}
+use Rattle.run_model.specs.FrameRecords.{FrameAsk, Posts, Begins, Takes, nanos_of}
 use Rattle.run_model.specs.Control.{At}
-use Rattle.run_model.specs.Loopers.{LooperState, GaugeState, SentCall, with_gauge, and_sends, and_posts_frame, traversal_requested, target_set, object_set, stepped_towards}
-use Rattle.run_model.specs.Loopers.{gauge_moved, paints, traversal_ran, callback_ran, fires, reaction, reacted, after_dispatch, and_takes}
+use Rattle.run_model.specs.Loopers.{LooperState, GaugeState, SentCall, with_gauge, and_sends, and_asks, and_posts_frame, traversal_requested, target_set, object_set, stepped_towards}
+use Rattle.run_model.specs.Loopers.{gauge_moved, paints, traversal_ran, callback_ran, fires, reaction, reacted, phase_ran, frame_ran, after_dispatch, and_takes}
 use Rattle.run_model.specs.Parts.{animation_ran}
 use Rattle.run_model.proofs.RunLaws.{ArePaints}
-use Rattle.dash_loopers.specs.Played.{IsAskedDueAt}
+use Rattle.dash_loopers.specs.Played.{IsAskedAt}
 
--- the second state has calls more, all at this moment, callbacks that are due then, and paints more at most
+-- the second state has calls more and asks more of its choreographer, all at this moment, and paints more at most
 pub record AddsAt (now : ℕ) (a b : LooperState) : Type 0 where
   pub more : List SentCall
   pub sent : b.sent ≡ a.sent ++ more
   pub timed : AllByRecursion (λ x. x.timing ≡ At now) more
-  pub posts : List FrameAsk
-  pub posted : b.posted ≡ a.posted ++ posts
-  pub due_then : AllByRecursion (IsAskedDueAt now) posts
+  pub asks : List FrameAsk
+  pub asked : b.asked ≡ a.asked ++ asks
+  pub asked_then : AllByRecursion (IsAskedAt now) asks
   pub place : b.place ≡ a.place
-  pub frames : b.frames ≡ a.frames
+  pub frames : b.frame_count ≡ a.frame_count
   pub stamp : b.stamp ≡ a.stamp
   pub awaits : b.awaits ≡ a.awaits
   pub paints : ArePaints a.painted → ArePaints b.painted
 
--- what is alike in calls, callbacks, place, frames and paints
-adds_none : (now : ℕ) (a b : LooperState) → b.sent ≡ a.sent → b.posted ≡ a.posted → b.place ≡ a.place → b.frames ≡ a.frames → b.stamp ≡ a.stamp → b.awaits ≡ a.awaits → (ArePaints a.painted → ArePaints b.painted) → AddsAt now a b
-adds_none now a b sent posted place frames stamp awaits paints = record {
+-- what is alike in calls, asks, place, frames and paints
+adds_none : (now : ℕ) (a b : LooperState) → b.sent ≡ a.sent → b.asked ≡ a.asked → b.place ≡ a.place → b.frame_count ≡ a.frame_count → b.stamp ≡ a.stamp → b.awaits ≡ a.awaits → (ArePaints a.painted → ArePaints b.painted) → AddsAt now a b
+adds_none now a b sent asked place frames stamp awaits paints = record {
   more = [];
   sent = sent ∙ sym (append-nil a.sent);
   timed = tt;
-  posts = [];
-  posted = posted ∙ sym (append-nil a.posted);
-  due_then = tt;
+  asks = [];
+  asked = asked ∙ sym (append-nil a.asked);
+  asked_then = tt;
   place = place;
   frames = frames;
   stamp = stamp;
@@ -49,14 +49,14 @@ adds_none now a b sent posted place frames stamp awaits paints = record {
   paints = paints;
 }
 
-adds_one : (now : ℕ) (a b : LooperState) (x : SentCall) → b.sent ≡ a.sent ++ x ∷ [] → x.timing ≡ At now → b.posted ≡ a.posted → b.place ≡ a.place → b.frames ≡ a.frames → b.stamp ≡ a.stamp → b.awaits ≡ a.awaits → (ArePaints a.painted → ArePaints b.painted) → AddsAt now a b
-adds_one now a b x sent timed posted place frames stamp awaits paints = record {
+adds_one : (now : ℕ) (a b : LooperState) (x : SentCall) → b.sent ≡ a.sent ++ x ∷ [] → x.timing ≡ At now → b.asked ≡ a.asked → b.place ≡ a.place → b.frame_count ≡ a.frame_count → b.stamp ≡ a.stamp → b.awaits ≡ a.awaits → (ArePaints a.painted → ArePaints b.painted) → AddsAt now a b
+adds_one now a b x sent timed asked place frames stamp awaits paints = record {
   more = x ∷ [];
   sent = sent;
   timed = (timed, tt);
-  posts = [];
-  posted = posted ∙ sym (append-nil a.posted);
-  due_then = tt;
+  asks = [];
+  asked = asked ∙ sym (append-nil a.asked);
+  asked_then = tt;
   place = place;
   frames = frames;
   stamp = stamp;
@@ -64,14 +64,14 @@ adds_one now a b x sent timed posted place frames stamp awaits paints = record {
   paints = paints;
 }
 
-adds_post : (now phase id : ℕ) (a : LooperState) → AddsAt now a (and_posts_frame now phase id a)
-adds_post now phase id a = record {
+adds_ask : (now : ℕ) (x : FrameAsk) → IsAskedAt now x → (a : LooperState) → AddsAt now a (and_asks x a)
+adds_ask now x at a = record {
   more = [];
   sent = sym (append-nil a.sent);
   timed = tt;
-  posts = Posts phase (frame_due now 0) id None ∷ [];
-  posted = refl;
-  due_then = (refl, tt);
+  asks = x ∷ [];
+  asked = refl;
+  asked_then = (at, tt);
   place = refl;
   frames = refl;
   stamp = refl;
@@ -79,14 +79,17 @@ adds_post now phase id a = record {
   paints = λ p. p;
 }
 
+adds_post : (now phase id : ℕ) (a : LooperState) → AddsAt now a (and_posts_frame now phase id a)
+adds_post now phase id a = adds_ask now (Posts phase (frame_due now 0) id None) refl a
+
 pub adds_then : (now : ℕ) (a b c : LooperState) → AddsAt now a b → AddsAt now b c → AddsAt now a c
 adds_then now a b c f g = record {
   more = f.more ++ g.more;
   sent = g.sent ∙ (ap (λ l. l ++ g.more) f.sent ∙ append_assoc a.sent f.more g.more);
   timed = AllByRecursion-append (λ x. x.timing ≡ At now) f.more g.more f.timed g.timed;
-  posts = f.posts ++ g.posts;
-  posted = g.posted ∙ (ap (λ l. l ++ g.posts) f.posted ∙ append_assoc a.posted f.posts g.posts);
-  due_then = AllByRecursion-append (IsAskedDueAt now) f.posts g.posts f.due_then g.due_then;
+  asks = f.asks ++ g.asks;
+  asked = g.asked ∙ (ap (λ l. l ++ g.asks) f.asked ∙ append_assoc a.asked f.asks g.asks);
+  asked_then = AllByRecursion-append (IsAskedAt now) f.asks g.asks f.asked_then g.asked_then;
   place = g.place ∙ f.place;
   frames = g.frames ∙ f.frames;
   stamp = g.stamp ∙ f.stamp;
@@ -191,9 +194,9 @@ module _ (s : Script) (q now : ℕ) where
     more = filter_map _ (zip s.rules a.fired);
     sent = refl;
     timed = timed_all _ (λ z. timed_if (reaction s now z.0) (fires m z.0 z.1) refl) (zip s.rules a.fired);
-    posts = [];
-    posted = sym (append-nil a.posted);
-    due_then = tt;
+    asks = [];
+    asked = sym (append-nil a.asked);
+    asked_then = tt;
     place = refl;
     frames = refl;
     stamp = refl;
@@ -204,13 +207,27 @@ module _ (s : Script) (q now : ℕ) where
   object_or_rules : (m : PostData) (a : LooperState) → AddsAt now a (option_map_or (λ g. object_set s q now g m.arg a) m.obj (reacted s now m a))
   object_or_rules m a = by_option now a (reacted s now m a) (λ g. object_set s q now g m.arg a) m.obj (λ g. sets_object g m.arg a) (reacts m a)
 
-  frame_run : (ids : List ℕ) (m : PostData) (a : LooperState) → AddsAt now a (if m.what == 0 then fold (callback_ran s q now) a ids else a)
-  frame_run ids m a = by_test now a _ a (m.what == 0) (runs_all a ids) (adds_self now a)
+  runs_phase : (a : LooperState) (phase : ℕ) (ids : List ℕ) → AddsAt now a (phase_ran s q now a (phase, ids))
+  runs_phase a phase ids =
+      let taken : LooperState = and_asks (Takes phase (nanos_of now)) a in
+      adds_then now a taken _ (adds_ask now (Takes phase (nanos_of now)) refl a) (runs_all taken ids)
+
+  runs_phases : (a : LooperState) (phases : List (ℕ × List ℕ)) → AddsAt now a (fold (phase_ran s q now) a phases)
+  runs_phases a [] = adds_self now a
+  runs_phases a ((phase, ids) ∷ phases) =
+      adds_then now a (phase_ran s q now a (phase, ids)) _ (runs_phase a phase ids) (runs_phases (phase_ran s q now a (phase, ids)) phases)
+
+  runs_frame : (ids : Option (List (List ℕ))) (a : LooperState) → AddsAt now a (frame_ran s q now ids a)
+  runs_frame None a = adds_self now a
+  runs_frame (Some phases) a =
+      let begun : LooperState = and_asks (Begins (nanos_of now)) a in
+      adds_then now a begun _ (adds_ask now (Begins (nanos_of now)) refl a) (runs_phases begun (enumerate_from 0 phases))
 
   -- what a message causes
-  pub delivers : (ids : List ℕ) (m : PostData) (a : LooperState) → AddsAt now a (after_dispatch s q now ids m a)
+  pub delivers : (ids : Option (List (List ℕ))) (m : PostData) (a : LooperState) → AddsAt now a (after_dispatch s q now ids m a)
   delivers ids m a =
-      by_test now a a _ (is_some m.callback) (adds_self now a) (by_test now a _ _ (m.handler == frame_handler q) (frame_run ids m a) (object_or_rules m a))
+      by_test now a a _ (is_some m.callback) (adds_self now a) (by_test now a _ _ (m.handler == frame_handler q)
+      (by_test now a _ a (m.what == 0) (runs_frame ids a) (adds_self now a)) (object_or_rules m a))
 
   -- the look that takes a message
   pub takes : (n : ℕ) (a : LooperState) → AddsAt now a (and_takes q n now a)

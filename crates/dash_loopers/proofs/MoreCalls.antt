@@ -65,18 +65,17 @@ without_self q k j (inl p) is = (let lt : k < q = p.0 in absurd (omega (arith, i
 without_self q k j (inr p) is = (let lt : q < k = p.0 in absurd (omega (arith, is)))
 
 -- a call on the own queue was made
-pub played_call : (s : Script) (q : ℕ) (call : Call) (timing : Timing) (p p' : Sender) (parts : Parts) → is_next call ≡ false → Makes p p' call [] → (a : LooperState) → IsPlayed s q (calls_of p) parts a
-    → IsPlayed s q (calls_of p') parts (with_call q call timing a)
-played_call s q call timing p p' parts looks m a is =
+pub played_call : {lockstep : Bool} (s : Script) (q : ℕ) (call : Call) (timing : Timing) (p p' : Sender) (parts : Parts) → is_next call ≡ false → Makes p p' call []
+    → (a : LooperState) → IsPlayed lockstep s q (calls_of p) parts a → IsPlayed lockstep s q (calls_of p') parts (with_call q call timing a)
+played_call {lockstep} s q call timing p p' parts looks m a is =
     let x : SentCall = record { queue = q; ask = Asks call; reply = None; timing = timing } in
     let made = calls_of p in
     let root = is.shown.stands in
     let tokens : tokens_in made ≡ tokens_in (made ++ m.entry ∷ []) = sym (tokens_more made m.entry [] m.answered ∙ append-nil (tokens_in made)) in
-    subst (λ (l : List Entry). IsPlayed s q l parts (with_call q call timing a)) (sym (calls_more p p' call [] looks m)) (record {
+    subst (λ (l : List Entry). IsPlayed lockstep s q l parts (with_call q call timing a)) (sym (calls_more p p' call [] looks m)) (record {
       shown = record {
         calls = subst (λ (l : List SentCall). AreFor IsSent [] l (made ++ m.entry ∷ [])) (sym (sent_here q a.sent x refl)) (AreFor-snoc IsSent (sent_on q a.sent) x made m.entry is.shown.calls (record { call = m.makes; reply = tt }));
         asked = is.shown.asked;
-        turns = is.shown.turns;
         stands = subst (λ (l : List ℕ). IsRootOf s q l (with_call q call timing a) parts.root) tokens (record { edition = root.edition; gauges = root.gauges; lines = root.lines; barrier = root.barrier; barriers = root.barriers; painted = root.painted });
       };
       elsewhere = λ k j d place near. subst (λ (l : List SentCall). AreFor IsSent [] l (own (slice_index_or parts.others.items j d))) (sym (sent_else k a.sent x (without_self q k j place))) (is.elsewhere k j d place near);

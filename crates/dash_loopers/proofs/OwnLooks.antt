@@ -1,8 +1,8 @@
 -- A looper looks for messages on its own queue alone.
 use Rattle.std.proofs.Common.{◌≡◌, ◌≢◌, ℕ, Bool, true, false, List, [], ◌∷◌, ◌++◌, Option, Some, None, refl, sym, ap, ◌∙◌, subst}
 use Rattle.std.specs.Prelude.{◌==◌, ◌&&◌, ◌||◌, ◌+◌, ◌-◌, ◌/◌, nat_le, is_some, IfSome, fold, slice_get, if◌then◌else◌}
-use Rattle.std.specs.List.{AllByRecursion, filter_map, cons_option, zip}
-use Rattle.std.specs.Option.{option_map_or}
+use Rattle.std.specs.List.{AllByRecursion, filter_map, cons_option, zip, enumerate_from}
+use Rattle.std.specs.Option.{option_map, option_map_or}
 use Rattle.std.proofs.lemmas.Bool.{eq-eqb, ne_eqb, eqb-true}
 use Rattle.loop_model.specs.declared.post.Post.{Post as PostData}
 use Rattle.loop_model.specs.declared.call.Call.{Call}
@@ -21,10 +21,11 @@ use Rattle.loop_model.specs.declared.reply.Reply.TheVariants.{Dispatched}
 use Rattle.run_model.specs.Control.{At, Exactly}
 use Rattle.loop_model.specs.Posts.{post_at}
 use Rattle.run_model.specs.Loopers.{LooperState, SentCall, GaugeState, and_sends, stepped_towards, paints, traversal_requested, target_set, object_set, gauge_moved, traversal_ran}
-use Rattle.run_model.specs.Loopers.{callback_ran, fires, reaction, reacted, after_dispatch, and_takes, and_posts_frame, with_gauge, dispatched, after_act, ActsLead}
+use Rattle.run_model.specs.Loopers.{callback_ran, and_asks, phase_ran, frame_ran, fires, reaction, reacted, after_dispatch, and_takes, and_posts_frame, with_gauge, dispatched, after_act, ActsLead}
 use Rattle.run_model.specs.Loopers.{IsSent}
 use Rattle.run_model.specs.Parts.{animation_ran, and_starts, running, sent_on}
-use Rattle.run_model.specs.FrameRecords.{millis_up, frame_ids}
+use Rattle.run_model.specs.FrameRecords.{millis_up, nanos_of, frame_ids, Begins, Takes}
+use Rattle.dash_script.specs.Causes.{phase_count}
 use Rattle.dash_loopers.specs.Loopers.{is_disposal}
 
 -- what is asked is a look for a message
@@ -37,7 +38,7 @@ abbrev pub NoneDisposes : List Entry → Type 0
 NoneDisposes es = AllByRecursion (λ e. is_disposal e ≡ false) es
 
 -- what is left open in a call is nothing to whether it is a look
-pub is_next-plain : (c : Call) → is_next (bare_call c) ≡ is_next c
+is_next-plain : (c : Call) → is_next (bare_call c) ≡ is_next c
 is_next-plain (Post p) = refl
 is_next-plain (Barrier now) = refl
 is_next-plain (Unbarrier t) = refl
@@ -119,6 +120,14 @@ module _ (s : Script) (q : ℕ) where
     callbacks_kept [] a h = h
     callbacks_kept (id ∷ ids) a h = callbacks_kept ids (callback_ran s q now a id) (callback_kept a id h)
 
+    phases_kept : (first : ℕ) (phases : List (List ℕ)) (a : LooperState) → LooksAtOwn a → LooksAtOwn (fold (phase_ran s q now) a (enumerate_from first phases))
+    phases_kept first [] a h = h
+    phases_kept first (ids ∷ phases) a h = phases_kept (first + 1) phases (phase_ran s q now a (first, ids)) (callbacks_kept ids (and_asks (Takes first (nanos_of now)) a) h)
+
+    frame_kept : (ids : Option (List (List ℕ))) (a : LooperState) → LooksAtOwn a → LooksAtOwn (frame_ran s q now ids a)
+    frame_kept None a h = h
+    frame_kept (Some phases) a h = phases_kept 0 phases (and_asks (Begins (nanos_of now)) a) h
+
     cons_kept : (o : Option SentCall) (xs : List SentCall) → IfSome o IsOwnLook → AllByRecursion IsOwnLook xs → AllByRecursion IsOwnLook (cons_option o xs)
     cons_kept None xs one h = h
     cons_kept (Some x) xs one h = (one, h)
@@ -137,13 +146,13 @@ module _ (s : Script) (q : ℕ) where
     reacted_kept : (m : PostData) (a : LooperState) → LooksAtOwn a → LooksAtOwn (reacted s now m a)
     reacted_kept m a h = AllByRecursion-append IsOwnLook a.sent (filter_map (reacts m) (zip s.rules a.fired)) h (reactions_kept m (zip s.rules a.fired))
 
-    delivered_kept : (ids : List ℕ) (m : PostData) (a : LooperState) → LooksAtOwn a → LooksAtOwn (after_dispatch s q now ids m a)
+    delivered_kept : (ids : Option (List (List ℕ))) (m : PostData) (a : LooperState) → LooksAtOwn a → LooksAtOwn (after_dispatch s q now ids m a)
     delivered_kept ids m a h =
         let b : LooperState = reacted s now m a in
-        let framed : LooperState = fold (callback_ran s q now) a ids in
+        let framed : LooperState = frame_ran s q now ids a in
         let handled : LooperState = option_map_or (λ g. object_set s q now g m.arg a) m.obj b in
         if_kept (is_some m.callback) a (if m.handler == frame_handler q then (if m.what == 0 then framed else a) else handled) h
-        (if_kept (m.handler == frame_handler q) (if m.what == 0 then framed else a) handled (if_kept (m.what == 0) framed a (callbacks_kept ids a h) h)
+        (if_kept (m.handler == frame_handler q) (if m.what == 0 then framed else a) handled (if_kept (m.what == 0) framed a (frame_kept ids a h) h)
         (option_kept (λ g. object_set s q now g m.arg a) m.obj b (λ g. object_kept g m.arg a h) (reacted_kept m a h)))
 
     takes_kept : (n : ℕ) (a : LooperState) → LooksAtOwn a → LooksAtOwn (and_takes q n now a)
@@ -155,7 +164,7 @@ module _ (s : Script) (q : ℕ) where
     dispatched_kept : (frame : Option ℕ) (n now : ℕ) (a : LooperState) (o : Option PostData) → LooksAtOwn a → LooksAtOwn (dispatched s q fs frame n now a o)
     dispatched_kept frame n now a None h = h
     dispatched_kept frame n now a (Some m) h =
-        delivered_kept now (frame_ids fs frame) m (and_takes q n now (and_starts q m (running frame now a))) (takes_kept now n (and_starts q m (running frame now a)) h)
+        delivered_kept now (option_map (frame_ids (phase_count s.edition) fs) frame) m (and_takes q n now (and_starts q m (running frame a))) (takes_kept now n (and_starts q m (running frame a)) h)
 
     act_kept : (frame : Option ℕ) (a : LooperState) (x : Act) → LooksAtOwn a → LooksAtOwn (after_act s q es fs frame a x)
     unfolding after_act

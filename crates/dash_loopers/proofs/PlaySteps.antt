@@ -1,6 +1,7 @@
 -- What a looper has come to after a pulse, a frame and a message.
 use Rattle.std.proofs.Common.{◌≡◌, ◌≢◌, ℕ, ◌+◌, ◌-◌, ◌*◌, ◌/◌, ◌<◌, ◌≤◌, ◌==◌, Bool, true, false, not, List, [], ◌∷◌, ◌++◌, map, length, get_or, take, Option, Some, None, Result, Ok, Err, OnOk, refl, sym, ap, ◌∙◌, subst, arith, append_assoc, eq-eqb, ne_eqb}
 use Rattle.std.specs.Prelude.{◌&&◌, ◌||◌, fold, is_some, is_ok, nat_le, slice_get, slice_index_or, if◌then◌else◌}
+use Rattle.std.specs.List.{enumerate_from}
 use Rattle.std.specs.Option.{option_map_or}
 use Rattle.std.proofs.Math.Bool.{or-true, and-false}
 use Rattle.std.proofs.lemmas.Bool.{eqb-true, leb-true}
@@ -13,6 +14,7 @@ use Rattle.loop_model.specs.declared.entry.Entry.{Entry}
 use Rattle.loop_model.specs.declared.journal.Act.{Act}
 use Rattle.loop_model.specs.declared.journal.Act.TheVariants.{Vsync}
 use Rattle.dash_script.specs.declared.script.Script.{Script}
+use Rattle.dash_script.specs.Reading.{HasText}
 use Rattle.dash_script.specs.Causes.{phase_count}
 use Rattle.message_pool.specs.Passes.{Tally}
 use Rattle.looper_run.specs.declared.dispatcher.Did.{Did}
@@ -33,33 +35,37 @@ use Rattle.run_model.specs.Planned.{frame_message}
 use Rattle.run_model.specs.AskedSoFar.{tokens_in}
 use Rattle.run_model.specs.Control.{At, Exactly}
 use Rattle.run_model.specs.Loopers.{LooperState, GaugeState, SentCall, and_sends, and_posts_frame, with_gauge, stepped_towards, paints, starts_frame, after_dispatch, reacted, object_set}
-use Rattle.run_model.specs.Loopers.{target_set, traversal_requested, traversal_ran, gauge_moved, callback_ran, IsSent}
+use Rattle.run_model.specs.Loopers.{target_set, traversal_requested, traversal_ran, gauge_moved, callback_ran, and_asks, phase_ran, frame_ran, IsSent}
 use Rattle.run_model.specs.Parts.{animation_ran, sent_on}
-use Rattle.run_model.specs.FrameRecords.{millis_up, nanos_of, place_after, asks_in}
+use Rattle.run_model.specs.FrameRecords.{millis_up, nanos_of, place_after, asks_in, as_told, Begins, Takes}
 use Rattle.dash_hall.specs.Growth.{own, GoesOn, Makes}
 use Rattle.dash_hall.specs.Hosts.{HostOrigin, IsHost, sends_by, pass_asks}
 use Rattle.choreographer.proofs.Recorded.{pulse_records}
 use Rattle.dash_loopers.specs.declared.view_root.Painted.{Painted}
-use Rattle.dash_loopers.specs.declared.view_root.ViewRoot.{ViewRoot}
 use Rattle.dash_loopers.specs.declared.player.Parts.{Parts}
-use Rattle.dash_loopers.specs.Played.{standing, gauge_fixed, IsBarrierOf, IsFrameBy, calls_of, IsShown, IsPlayed, StepsRoot, Plays, RanFrame, Delivers, DeliversPulse, Pulses, looper_pulsed, paint_of, KeepsLatest, IsStampedBy, IsNextPulse, EndsLatest, HasLatest, AwaitsBehind, RunsInTime, BeginsNoneBehind}
+use Rattle.dash_loopers.specs.Played.{standing, gauge_fixed, IsBarrierOf, IsRootOf, IsFrameBy, calls_of, IsPlayed, StepsRoot, RanFrame, Delivers, DeliversPulse, Pulses, looper_pulsed, paint_of, KeepsLatest, IsStampedBy, IsNextPulse}
+use Rattle.dash_loopers.specs.Played.{EndsLatest, HasLatest, PassHasAsked, AwaitsBehind, RunsInTime, BeginsNoneBehind, MayTell, MayTellAll, MayTellDelivery, PlaysAt}
 use Rattle.dash_loopers.proofs.WantedPulses.{last_quietly}
 use Rattle.dash_hall.proofs.FramePosts.{accepted, refused, told_one, told_none}
 use Rattle.dash_loopers.proofs.FrameIds.{turn_grew}
 use Rattle.dash_loopers.proofs.LatestPulses.{still_in_time}
-use Rattle.dash_loopers.proofs.FrameSteps.{FrameShows}
 use Rattle.dash_loopers.proofs.MoreCalls.{calls_same, sent_else, without_self, played_call}
 
 -- ---- calls that tell of nothing
 
 -- no more calls were made by a host's call that told of none
-pub calls_untold : (h : ℕ) (p q : Sender) (a b : Tally) → GoesOn p q a b → sends_by h q ≡ sends_by h p → calls_of q ≡ calls_of p
+calls_untold : (h : ℕ) (p q : Sender) (a b : Tally) → GoesOn p q a b → sends_by h q ≡ sends_by h p → calls_of q ≡ calls_of p
 calls_untold h p q a b goes same = calls_same p q (told_none h p q a b goes same)
 
--- other parts with the same view root, posters and counts
-pub played_with : (s : Script) (q : ℕ) (made made' : List Entry) (parts parts' : Parts) (a : LooperState) → made' ≡ made → parts'.root ≡ parts.root → parts'.others ≡ parts.others → parts'.fired ≡ parts.fired → IsPlayed s q made parts a → IsPlayed s q made' parts' a
-played_with s q made made' parts parts' a calls root others fired is = record {
-  shown = subst (λ (v : ViewRoot). IsShown s q made' v a) (sym root) (subst (λ (l : List Entry). IsShown s q l parts.root a) (sym calls) is.shown);
+-- other parts with the same view root, posters and counts, whose pass asked for nothing more
+pub played_with : {lockstep : Bool} (s : Script) (q : ℕ) (made made' : List Entry) (parts parts' : Parts) (a : LooperState) → made' ≡ made → pass_asks parts'.frames ≡ pass_asks parts.frames
+    → parts'.root ≡ parts.root → parts'.others ≡ parts.others → parts'.fired ≡ parts.fired → IsPlayed lockstep s q made parts a → IsPlayed lockstep s q made' parts' a
+played_with {lockstep} s q made made' parts parts' a calls asks root others fired is = record {
+  shown = record {
+    calls = subst (AreFor IsSent [] (sent_on q a.sent)) (sym calls) is.shown.calls;
+    asked = ap (map (as_told lockstep)) asks ∙ is.shown.asked;
+    stands = subst (IsRootOf s q (tokens_in made') a) (sym root) (subst (λ (l : List Entry). IsRootOf s q (tokens_in l) a parts.root) (sym calls) is.shown.stands);
+  };
   elsewhere = λ k j d place near. subst (λ (l : List Sender). AreFor IsSent [] (sent_on k a.sent) (own (slice_index_or l j d))) (sym (ap (λ v. v.items) others)) (is.elsewhere k j d place (subst (λ (l : List Sender). j < length l) (ap (λ v. v.items) others) near));
   fired = ap (λ v. v.items) fired ∙ is.fired;
   counts = ap (λ v. length v.items) fired ∙ is.counts;
@@ -90,14 +96,13 @@ frame_sent h w host.Refused p p' a b goes isnt sends = told_one h 0 0 w host.Ref
 frame_sent h w host.NoMemory p p' a b goes isnt sends = absurd (isnt refl)
 
 -- what is played says nothing of the latest pulse
-played_pulsed : (s : Script) (q stamp : ℕ) (made : List Entry) (parts : Parts) (a : LooperState) → IsPlayed s q made parts a → IsPlayed s q made parts (record a { stamp = stamp; awaits = true })
+played_pulsed : {lockstep : Bool} (s : Script) (q stamp : ℕ) (made : List Entry) (parts : Parts) (a : LooperState) → IsPlayed lockstep s q made parts a → IsPlayed lockstep s q made parts (record a { stamp = stamp; awaits = true })
 played_pulsed s q stamp made parts a is =
     let root = is.shown.stands in
     record {
       shown = record {
         calls = is.shown.calls;
         asked = is.shown.asked;
-        turns = is.shown.turns;
         stands = record { edition = root.edition; gauges = root.gauges; lines = root.lines; barrier = root.barrier; barriers = root.barriers; painted = root.painted };
       };
       elsewhere = is.elsewhere;
@@ -109,18 +114,20 @@ played_pulsed s q stamp made parts a is =
 pub pulse_delivered : (s : Script) (q now : ℕ) (p p' : Sender) (a b : Tally) (parts parts' : Parts) (r : Option Pulse) → GoesOn p p' a b
     → PulsedBy parts.frames parts'.frames (λ n. n == nanos_of now) (sends_by (frame_handler q) p) (sends_by (frame_handler q) p') r → parts'.root ≡ parts.root → parts'.others ≡ parts.others → parts'.fired ≡ parts.fired
     → DeliversPulse s q now (calls_of p) (calls_of p') parts parts' r
-pulse_delivered s q now p p' a b parts parts' None goes (x, y, n, t, moment, (none, left, sends)) root others fired = (
-  turn_grew parts.frames parts'.frames x y t,
-  ap asks_in (pulse_records parts.frames parts'.frames (λ n. n == nanos_of now) (sends_by (frame_handler q) p) (sends_by (frame_handler q) p') None (x, y, n, t, moment, (none, left, sends))),
-  λ text l is. played_with s q (calls_of p) (calls_of p') parts parts' l (calls_untold (frame_handler q) p p' a b goes sends) root others fired is,
-)
+pulse_delivered s q now p p' a b parts parts' None goes (x, y, n, t, moment, (none, left, sends)) root others fired =
+    let asks = ap asks_in (pulse_records parts.frames parts'.frames (λ n. n == nanos_of now) (sends_by (frame_handler q) p) (sends_by (frame_handler q) p') None (x, y, n, t, moment, (none, left, sends))) in (
+      turn_grew parts.frames parts'.frames x y t,
+      asks,
+      λ lockstep text l is. played_with s q (calls_of p) (calls_of p') parts parts' l (calls_untold (frame_handler q) p p' a b goes sends) asks root others fired is,
+    )
 pulse_delivered s q now p p' a b parts parts' (Some pulse) goes (x, y, n, t, moment, (some, left, sends)) root others fired = λ isnt.
     (let near : pulse.stamp ≤ nanos_of now = subst (λ (m : ℕ). pulse.stamp ≤ m) (eqb-true n (nanos_of now) moment) (pulse_near x.frames.asked n pulse.stamp some) in
-    let made = frame_sent (frame_handler q) (pulse.stamp / 1000000) pulse.sent p p' a b goes isnt sends in (
+    let made = frame_sent (frame_handler q) (pulse.stamp / 1000000) pulse.sent p p' a b goes isnt sends in
+    let asks = ap asks_in (pulse_records parts.frames parts'.frames (λ n. n == nanos_of now) (sends_by (frame_handler q) p) (sends_by (frame_handler q) p') (Some pulse) (x, y, n, t, moment, (some, left, sends))) in (
       turn_grew parts.frames parts'.frames x y t,
-      ap asks_in (pulse_records parts.frames parts'.frames (λ n. n == nanos_of now) (sends_by (frame_handler q) p) (sends_by (frame_handler q) p') (Some pulse) (x, y, n, t, moment, (some, left, sends))),
+      asks,
       millis_near pulse.stamp now near,
-      λ text l is. played_with s q (calls_of p') (calls_of p') parts parts' (looper_pulsed q (Some pulse.stamp) l) refl root others fired
+      λ lockstep text l is. played_with s q (calls_of p') (calls_of p') parts parts' (looper_pulsed q (Some pulse.stamp) l) refl asks root others fired
           (played_pulsed s q pulse.stamp (calls_of p') parts _ (played_call s q (Post (frame_message q 0 0 (pulse.stamp / 1000000))) (Exactly (millis_up pulse.stamp)) p p' parts refl made l is)),
     ))
 
@@ -169,9 +176,9 @@ untold_hosted o o' p p0 p' b same is began at sends =
 -- ---- what a step leaves as it was
 
 -- nothing was sent on another queue, and no rule was counted
-pub record StaysElsewhere (q : ℕ) (a b : LooperState) : Type 0 where
-  pub elsewhere : (k : ℕ) → k ≢ q → sent_on k b.sent ≡ sent_on k a.sent
-  pub fired : b.fired ≡ a.fired
+record StaysElsewhere (q : ℕ) (a b : LooperState) : Type 0 where
+  elsewhere : (k : ℕ) → k ≢ q → sent_on k b.sent ≡ sent_on k a.sent
+  fired : b.fired ≡ a.fired
 
 stays_self : (q : ℕ) (a : LooperState) → StaysElsewhere q a a
 stays_self q a = record { elsewhere = λ k isnt. refl; fired = refl }
@@ -200,7 +207,7 @@ module _ (s : Script) (q now : ℕ) where
       stays_if q (x.animating || x.value == target) a _ (traversal_requested s q now moving) (record { elsewhere = λ k isnt. refl; fired = refl })
       (stays_then q a moving (traversal_requested s q now moving) (record { elsewhere = λ k isnt. refl; fired = refl }) (stays_requested moving))
 
-  pub stays_object : (g target : ℕ) (a : LooperState) → StaysElsewhere q a (object_set s q now g target a)
+  stays_object : (g target : ℕ) (a : LooperState) → StaysElsewhere q a (object_set s q now g target a)
   stays_object g target a = stays_if q (gauge_looper s g == q) a _ a (stays_or q (slice_get a.gauges g) a (λ x. target_set s q now g target x a) (λ x. stays_target g target x a)) (stays_self q a)
 
   stays_moved : (g : ℕ) (x : GaugeState) (a : LooperState) → StaysElsewhere q a (gauge_moved s q now g x a)
@@ -225,9 +232,26 @@ module _ (s : Script) (q now : ℕ) where
   stays_called id a = stays_if q (id == traversal_id) a (traversal_ran s q now a) _ (stays_traversed a)
       (stays_if q (nat_le 1000000 id) a _ a (stays_or q (slice_get a.gauges (id - 1000000)) a (λ x. animation_ran s q now (id - 1000000) x a) (λ x. stays_animated (id - 1000000) x a)) (stays_self q a))
 
-  pub stays_ran : (ids : List ℕ) (a : LooperState) → StaysElsewhere q a (fold (callback_ran s q now) a ids)
-  stays_ran [] a = stays_self q a
-  stays_ran (id ∷ ids) a = stays_then q a (callback_ran s q now a id) (fold (callback_ran s q now) (callback_ran s q now a id) ids) (stays_called id a) (stays_ran ids (callback_ran s q now a id))
+  stays_batch : (ids : List ℕ) (a : LooperState) → StaysElsewhere q a (fold (callback_ran s q now) a ids)
+  stays_batch [] a = stays_self q a
+  stays_batch (id ∷ ids) a = stays_then q a (callback_ran s q now a id) (fold (callback_ran s q now) (callback_ran s q now a id) ids) (stays_called id a) (stays_batch ids (callback_ran s q now a id))
+
+  stays_phase : (a : LooperState) (phase : ℕ) (ids : List ℕ) → StaysElsewhere q a (phase_ran s q now a (phase, ids))
+  stays_phase a phase ids =
+      let took : LooperState = and_asks (Takes phase (nanos_of now)) a in
+      stays_then q a took (fold (callback_ran s q now) took ids) (record { elsewhere = λ k isnt. refl; fired = refl }) (stays_batch ids took)
+
+  stays_phases : (first : ℕ) (phases : List (List ℕ)) (a : LooperState) → StaysElsewhere q a (fold (phase_ran s q now) a (enumerate_from first phases))
+  stays_phases first [] a = stays_self q a
+  stays_phases first (ids ∷ phases) a =
+      stays_then q a (phase_ran s q now a (first, ids)) (fold (phase_ran s q now) (phase_ran s q now a (first, ids)) (enumerate_from (first + 1) phases)) (stays_phase a first ids)
+      (stays_phases (first + 1) phases (phase_ran s q now a (first, ids)))
+
+  stays_framed : (ids : Option (List (List ℕ))) (a : LooperState) → StaysElsewhere q a (frame_ran s q now ids a)
+  stays_framed None a = stays_self q a
+  stays_framed (Some phases) a =
+      let begun : LooperState = and_asks (Begins (nanos_of now)) a in
+      stays_then q a begun (fold (phase_ran s q now) begun (enumerate_from 0 phases)) (record { elsewhere = λ k isnt. refl; fired = refl }) (stays_phases 0 phases begun)
 
 -- a message with an object paints nothing
 painted_if : (t : Bool) (b c : LooperState) (l : List Act) → b.painted ≡ l → c.painted ≡ l → (if t then b else c).painted ≡ l
@@ -251,8 +275,9 @@ object_painted s q now g target a =
     painted_if (gauge_looper s g == q) _ a a.painted (painted_or (slice_get a.gauges g) a (λ x. target_set s q now g target x a) (λ x. target_painted s q now g target x a)) refl
 
 -- a step of the view root is one of all that the looper has
-pub played_shown : (s : Script) (q : ℕ) (step : LooperState → LooperState) (made made' : List Entry) (parts parts' : Parts) → StepsRoot s q step made parts.root made' parts'.root → ((a : LooperState) → StaysElsewhere q a (step a)) → parts'.others ≡ parts.others
-    → parts'.fired ≡ parts.fired → Plays s q step made parts made' parts'
+played_shown : {lockstep : Bool} (s : Script) (q : ℕ) (step : LooperState → LooperState) (made made' : List Entry) (parts parts' : Parts)
+    → StepsRoot lockstep s q step made parts.frames parts.root made' parts'.frames parts'.root → ((a : LooperState) → StaysElsewhere q a (step a)) → parts'.others ≡ parts.others
+    → parts'.fired ≡ parts.fired → HasText s → (a : LooperState) → IsPlayed lockstep s q made parts a → IsPlayed lockstep s q made' parts' (step a)
 played_shown s q step made made' parts parts' shows stays others fired text a is =
     let still = stays a in
     record {
@@ -263,28 +288,46 @@ played_shown s q step made made' parts parts' shows stays others fired text a is
       counts = ap (λ v. length v.items) fired ∙ is.counts;
     }
 
+-- a frame whose moments pass the test is a step of all that the looper has, told at each time that a run may tell of it
+abbrev PlaysFrame : Script → ℕ → ℕ → (ℕ → Bool) → Option (List (List ℕ)) → List Entry → Parts → List Entry → Parts → Type 0
+PlaysFrame s q now is_moment ids made parts made' parts' =
+    HasText s → (lockstep : Bool) (at : ℕ) → MayTell lockstep now at → MayTellAll lockstep is_moment at → (a : LooperState)
+    → IsPlayed lockstep s q made parts a → IsPlayed lockstep s q made' parts' (frame_ran s q at ids a)
+
+-- the same of a message's delivery
+abbrev PlaysDelivery : Script → ℕ → ℕ → (ℕ → Bool) → PostData → (ℕ → LooperState → LooperState) → List Entry → Parts → List Entry → Parts → Type 0
+PlaysDelivery s q now is_moment m step made parts made' parts' =
+    HasText s → (lockstep : Bool) (at : ℕ) → MayTellDelivery lockstep q m now is_moment at → (a : LooperState)
+    → IsPlayed lockstep s q made parts a → IsPlayed lockstep s q made' parts' (step at a)
+
 -- a target was set by a host that was made of the looper's poster
-pub set_hosted : {E : Type 0} (r : Result Unit E) (s : Script) (q now now' g target : ℕ) (p p0 : Sender) (made' : List Entry) (parts parts' : Parts) → OnOk r (StepsRoot s q (object_set s q now' g target) (calls_of p0) parts.root made' parts'.root) → now' ≡ now → p0 ≡ p
-    → parts'.others ≡ parts.others → parts'.fired ≡ parts.fired → OnOk r (Plays s q (object_set s q now g target) (calls_of p) parts made' parts')
-set_hosted (Ok u) s q now now' g target p p0 made' parts parts' shows at same others fired =
-    played_shown s q (object_set s q now g target) (calls_of p) made' parts parts'
-    (subst (λ (n : ℕ). StepsRoot s q (object_set s q n g target) (calls_of p) parts.root made' parts'.root) at (subst (λ (z : Sender). StepsRoot s q (object_set s q now' g target) (calls_of z) parts.root made' parts'.root) same shows))
-    (stays_object s q now g target) others fired
-set_hosted (Err e) s q now now' g target p p0 made' parts parts' shows at same others fired = tt
+pub set_hosted : {E : Type 0} (r : Result Unit E) (s : Script) (q now now' g target : ℕ) (p p0 : Sender) (made' : List Entry) (parts parts' : Parts)
+    → OnOk r ((lockstep : Bool) (s : Script) (q at : ℕ) → MayTell lockstep now' at → StepsRoot lockstep s q (object_set s q at g target) (calls_of p0) parts.frames parts.root made' parts'.frames parts'.root)
+    → now' ≡ now → p0 ≡ p → parts'.others ≡ parts.others → parts'.fired ≡ parts.fired → OnOk r (PlaysAt s q now (λ at. object_set s q at g target) (calls_of p) parts made' parts')
+set_hosted (Ok u) s q now now' g target p p0 made' parts parts' shows moment same others fired = λ text lockstep at may.
+    played_shown s q (object_set s q at g target) (calls_of p) made' parts parts'
+    (subst (λ (z : Sender). StepsRoot lockstep s q (object_set s q at g target) (calls_of z) parts.frames parts.root made' parts'.frames parts'.root) same
+    (shows lockstep s q at (λ is. may is ∙ sym moment)))
+    (stays_object s q at g target) others fired text
+set_hosted (Err e) s q now now' g target p p0 made' parts parts' shows moment same others fired = tt
 
 -- a frame ran by such a host
-pub frame_hosted : {E : Type 0} (r : Result Unit E) (s : Script) (q now now' interval phases : ℕ) (is_moment is_moment' : ℕ → Bool) (p p0 p' : Sender) (parts parts' : Parts)
-    → OnOk r ((ids : List ℕ) × RanFrame interval phases is_moment' parts.frames parts'.frames ids × EndsLatest parts.frames parts'.frames × FrameShows now' ids p0 parts.root p' parts'.root) → interval ≡ s.period → phases ≡ phase_count s.edition → now' ≡ now → is_moment' ≡ is_moment → p0 ≡ p → parts'.others ≡ parts.others → parts'.fired ≡ parts.fired
-    → OnOk r ((ids : List ℕ) × RanFrame s.period (phase_count s.edition) is_moment parts.frames parts'.frames ids × EndsLatest parts.frames parts'.frames × Plays s q (λ a. fold (callback_ran s q now) a ids) (calls_of p) parts (calls_of p') parts')
-frame_hosted (Ok u) s q now now' interval phases is_moment is_moment' p p0 p' parts parts' (ids, ran, ends, shows) period four at uptime same others fired = (
+pub frame_hosted : {E : Type 0} (r : Result Unit E) (s : Script) (q now now' interval phases : ℕ) (is_moment is_moment' : ℕ → Bool) (p p0 : Sender) (made' : List Entry) (parts parts' : Parts)
+    → OnOk r ((ids : Option (List (List ℕ))) × RanFrame interval phases is_moment' parts.frames parts'.frames ids × EndsLatest parts.frames parts'.frames
+    × ((lockstep : Bool) (s : Script) (q at : ℕ) → MayTell lockstep now' at → MayTellAll lockstep is_moment' at → StepsRoot lockstep s q (frame_ran s q at ids) (calls_of p0) parts.frames parts.root made' parts'.frames parts'.root))
+    → interval ≡ s.period → phases ≡ phase_count s.edition → now' ≡ now → is_moment' ≡ is_moment → p0 ≡ p → parts'.others ≡ parts.others → parts'.fired ≡ parts.fired
+    → OnOk r ((ids : Option (List (List ℕ))) × RanFrame s.period (phase_count s.edition) is_moment parts.frames parts'.frames ids × EndsLatest parts.frames parts'.frames
+    × PlaysFrame s q now is_moment ids (calls_of p) parts made' parts')
+frame_hosted (Ok u) s q now now' interval phases is_moment is_moment' p p0 made' parts parts' (ids, ran, ends, shows) period four moment uptime same others fired = (
   ids,
   subst (λ (f : ℕ → Bool). RanFrame s.period (phase_count s.edition) f parts.frames parts'.frames ids) uptime (subst (λ (n : ℕ). RanFrame s.period n is_moment' parts.frames parts'.frames ids) four (subst (λ (n : ℕ). RanFrame n phases is_moment' parts.frames parts'.frames ids) period ran)),
   ends,
-  played_shown s q (λ a. fold (callback_ran s q now) a ids) (calls_of p) (calls_of p') parts parts'
-      (subst (λ (n : ℕ). StepsRoot s q (λ a. fold (callback_ran s q n) a ids) (calls_of p) parts.root (calls_of p') parts'.root) at (subst (λ (z : Sender). StepsRoot s q (λ a. fold (callback_ran s q now') a ids) (calls_of z) parts.root (calls_of p') parts'.root) same (shows s q)))
-      (stays_ran s q now ids) others fired,
+  λ text lockstep at may all. played_shown s q (frame_ran s q at ids) (calls_of p) made' parts parts'
+      (subst (λ (z : Sender). StepsRoot lockstep s q (frame_ran s q at ids) (calls_of z) parts.frames parts.root made' parts'.frames parts'.root) same
+      (shows lockstep s q at (λ is. may is ∙ sym moment) (subst (λ (f : ℕ → Bool). MayTellAll lockstep f at) (sym uptime) all)))
+      (stays_framed s q at ids) others fired text,
 )
-frame_hosted (Err e) s q now now' interval phases is_moment is_moment' p p0 p' parts parts' h period four at uptime same others fired = tt
+frame_hosted (Err e) s q now now' interval phases is_moment is_moment' p p0 made' parts parts' h period four moment uptime same others fired = tt
 
 -- ---- a message was delivered
 
@@ -294,36 +337,32 @@ if_starts false false w x y z is = absurd cc
 if_starts false true false x y z is = absurd cc
 if_starts false true true x y z is = refl
 
-if_quiet : (c h w : Bool) (x y z : LooperState) → c ≡ false → h ≡ true → w ≡ false → (if c then x else if h then (if w then y else x) else z) ≡ x
-if_quiet true h w x y z a b d = refl
-if_quiet false false w x y z a b d = absurd (let wrong : false ≡ true = b in cc wrong)
-if_quiet false true false x y z a b d = refl
-if_quiet false true true x y z a b d = absurd (let wrong : true ≡ false = d in cc wrong)
+if_none : (c h w : Bool) (x z : LooperState) → c ≡ false → h ≡ true → (if c then x else if h then (if w then x else x) else z) ≡ x
+if_none true h w x z a b = refl
+if_none false false w x z a b = absurd (let wrong : false ≡ true = b in cc wrong)
+if_none false true false x z a b = refl
+if_none false true true x z a b = refl
 
 if_other : (c h : Bool) (x y z : LooperState) → c ≡ false → h ≡ false → (if c then x else if h then y else z) ≡ z
 if_other true h x y z a b = absurd (let wrong : true ≡ false = a in cc wrong)
 if_other false true x y z a b = absurd (let wrong : true ≡ false = b in cc wrong)
 if_other false false x y z a b = refl
 
--- the message of the choreographer that starts a frame
-pub frame_starts : (q : ℕ) (m : PostData) → m.callback ≡ None → m.handler ≡ frame_handler q → m.what ≡ 0 → starts_frame q m ≡ true
-frame_starts q m none mine is = λ i. not (is_some (none i)) && eq-eqb m.handler (frame_handler q) mine i && eq-eqb m.what 0 is i
+-- the message of a frame runs it
+delivered_frame : (s : Script) (q now : ℕ) (ids : Option (List (List ℕ))) (m : PostData) (a : LooperState) → starts_frame q m ≡ true → after_dispatch s q now ids m a ≡ frame_ran s q now ids a
+delivered_frame s q now ids m a is = if_starts (is_some m.callback) (m.handler == frame_handler q) (m.what == 0) a (frame_ran s q now ids a) _ is
 
--- the message of a frame runs its callbacks
-pub delivered_frame : (s : Script) (q now : ℕ) (ids : List ℕ) (m : PostData) (a : LooperState) → starts_frame q m ≡ true → after_dispatch s q now ids m a ≡ fold (callback_ran s q now) a ids
-delivered_frame s q now ids m a is = if_starts (is_some m.callback) (m.handler == frame_handler q) (m.what == 0) a (fold (callback_ran s q now) a ids) _ is
-
--- another message of the choreographer changes nothing
-pub delivered_quiet : (s : Script) (q now : ℕ) (m : PostData) (a : LooperState) → m.callback ≡ None → m.handler ≡ frame_handler q → m.what ≢ 0 → after_dispatch s q now [] m a ≡ a
-delivered_quiet s q now m a none mine isnt = if_quiet (is_some m.callback) (m.handler == frame_handler q) (m.what == 0) a a _ (ap is_some none) (eq-eqb m.handler (frame_handler q) mine) (ne_eqb m.what 0 isnt)
+-- a message of the choreographer that runs no frame changes nothing
+pub delivered_none : (s : Script) (q now : ℕ) (m : PostData) (a : LooperState) → m.callback ≡ None → m.handler ≡ frame_handler q → after_dispatch s q now None m a ≡ a
+delivered_none s q now m a none mine = if_none (is_some m.callback) (m.handler == frame_handler q) (m.what == 0) a _ (ap is_some none) (eq-eqb m.handler (frame_handler q) mine)
 
 -- a message with an object sets its target
-pub delivered_object : (s : Script) (q now : ℕ) (m : PostData) (object : ℕ) (a : LooperState) → m.callback ≡ None → m.handler ≢ frame_handler q → m.obj ≡ Some object → after_dispatch s q now [] m a ≡ object_set s q now object m.arg a
+pub delivered_object : (s : Script) (q now : ℕ) (m : PostData) (object : ℕ) (a : LooperState) → m.callback ≡ None → m.handler ≢ frame_handler q → m.obj ≡ Some object → after_dispatch s q now None m a ≡ object_set s q now object m.arg a
 delivered_object s q now m object a none other some =
     if_other (is_some m.callback) (m.handler == frame_handler q) a _ _ (ap is_some none) (ne_eqb m.handler (frame_handler q) other) ∙ ap (λ (o : Option ℕ). option_map_or (λ g. object_set s q now g m.arg a) o (reacted s now m a)) some
 
 -- any other is one for the rules
-pub delivered_plain : (s : Script) (q now : ℕ) (m : PostData) (a : LooperState) → m.callback ≡ None → m.handler ≢ frame_handler q → m.obj ≡ None → after_dispatch s q now [] m a ≡ reacted s now m a
+pub delivered_plain : (s : Script) (q now : ℕ) (m : PostData) (a : LooperState) → m.callback ≡ None → m.handler ≢ frame_handler q → m.obj ≡ None → after_dispatch s q now None m a ≡ reacted s now m a
 delivered_plain s q now m a none other nothing =
     if_other (is_some m.callback) (m.handler == frame_handler q) a _ _ (ap is_some none) (ne_eqb m.handler (frame_handler q) other) ∙ ap (λ (o : Option ℕ). option_map_or (λ g. object_set s q now g m.arg a) o (reacted s now m a)) nothing
 
@@ -335,19 +374,17 @@ pub starts_quiet : (q : ℕ) (m : PostData) (b : Bool) → m.what ≢ 0 → (b &
 starts_quiet q m b isnt = ap (λ (w : Bool). b && (not (is_some m.callback) && m.handler == frame_handler q && w)) (ne_eqb m.what 0 isnt) ∙ (ap (λ (x : Bool). b && x) (and-false (not (is_some m.callback) && m.handler == frame_handler q)) ∙ and-false b)
 
 -- what a frame painted was told, and is painted no more
-pub frame_delivered : (s : Script) (q now : ℕ) (is_moment : ℕ → Bool) (m : PostData) (made made' : List Entry) (parts mid parts' : Parts) (acts acts0 acts' : List Act) (ids : List ℕ) → starts_frame q m ≡ true → parts.awaits ≡ true → parts'.awaits ≡ false → RanFrame s.period (phase_count s.edition) is_moment parts.frames mid.frames ids → EndsLatest parts.frames mid.frames
-    → Plays s q (λ a. fold (callback_ran s q now) a ids) made parts made' mid → acts0 ≡ acts → acts' ≡ acts0 ++ map paint_of mid.root.painted.items → parts'.frames ≡ mid.frames → parts'.others ≡ mid.others → parts'.fired ≡ mid.fired
-    → parts'.root.gauges ≡ mid.root.gauges → parts'.root.barrier ≡ mid.root.barrier → parts'.root.pass ≡ mid.root.pass → parts'.root.edition ≡ mid.root.edition → parts'.root.painted.items ≡ [] → Delivers s q now is_moment m made made' parts parts' acts acts'
-frame_delivered s q now is_moment m made made' parts mid parts' acts acts0 acts' ids starts awaited over ran ends plays same told frames others fired gauges barrier pass edition none = record {
+pub frame_delivered : (s : Script) (q now : ℕ) (is_moment : ℕ → Bool) (m : PostData) (made made' : List Entry) (parts mid parts' : Parts) (acts acts0 acts' : List Act) (ids : Option (List (List ℕ)))
+    → starts_frame q m ≡ true → parts.awaits ≡ true → parts'.awaits ≡ false → RanFrame s.period (phase_count s.edition) is_moment parts.frames mid.frames ids → EndsLatest parts.frames mid.frames
+    → PlaysFrame s q now is_moment ids made parts made' mid → acts0 ≡ acts → acts' ≡ acts0 ++ map paint_of mid.root.painted.items → parts'.frames ≡ mid.frames → parts'.others ≡ mid.others → parts'.fired ≡ mid.fired
+    → parts'.root.gauges ≡ mid.root.gauges → parts'.root.barrier ≡ mid.root.barrier → parts'.root.edition ≡ mid.root.edition → parts'.root.painted.items ≡ [] → Delivers s q now is_moment m made made' parts parts' acts acts'
+frame_delivered s q now is_moment m made made' parts mid parts' acts acts0 acts' ids starts awaited over ran ends plays same told frames others fired gauges barrier edition none = record {
   ids = ids;
   ran = record {
     frame = ran.frame;
-    start = ran.start;
-    started = ran.started;
-    framed = subst (λ (f : Pass). IsFrameBy s.period (phase_count s.edition) is_moment parts.frames f ran.frame ids) (sym frames) ran.framed;
+    framed = subst (λ (f : Pass). IsFrameBy s.period (phase_count s.edition) parts.frames f ran.frame ids) (sym frames) ran.framed;
     within = subst (λ (f : Pass). place_after 0 ran.frame ≤ length f.view.seen) (sym frames) ran.within;
     grew = subst (λ (f : Pass). IsPrefix parts.frames.view.seen f.view.seen) (sym frames) ran.grew;
-    asks = ap pass_asks frames ∙ ran.asks;
     stamped = λ stamp waits has. subst (λ (f : Pass). IsStampedBy f ran.frame stamp) (sym frames) (ran.stamped stamp waits has);
     in_time = subst (λ (f : Pass). RunsInTime is_moment parts.frames f ran.frame) (sym frames) ran.in_time;
     last = subst (λ (f : Pass). BeginsNoneBehind parts.frames f ran.frame) (sym frames) ran.last;
@@ -358,16 +395,15 @@ frame_delivered s q now is_moment m made made' parts mid parts' acts acts0 acts'
     waits = over ∙ sym (ap (λ (t : Bool). parts.awaits && not t) starts ∙ and-false parts.awaits);
     latest = λ stamp has. subst (λ (b : Bool). HasLatest parts'.frames stamp b) (sym over) (subst (λ (f : Pass). HasLatest f stamp false) (sym frames) (ends stamp (subst (HasLatest parts.frames stamp) awaited has)));
   };
-  plays = λ text a unpainted is. (
-      let b : LooperState = fold (callback_ran s q now) a ids in
-      let done : IsPlayed s q made' mid b = plays text a is in
+  plays = λ text lockstep at may a unpainted is. (
+      let b : LooperState = frame_ran s q at ids a in
+      let done : IsPlayed lockstep s q made' mid b = plays text lockstep at may.time may.frame a is in
       let root = done.shown.stands in
-      subst (λ (z : LooperState). IsPlayed s q made' parts' (record z { painted = [] }) × (acts' ≡ acts ++ z.painted)) (sym (delivered_frame s q now ids m a starts)) (
+      subst (λ (z : LooperState). IsPlayed lockstep s q made' parts' (record z { painted = [] }) × (acts' ≡ acts ++ z.painted)) (sym (delivered_frame s q at ids m a starts)) (
         record {
           shown = record {
             calls = done.shown.calls;
-            asked = ap pass_asks pass ∙ done.shown.asked;
-            turns = ap (λ (f : Pass). f.view.turns) pass ∙ done.shown.turns;
+            asked = subst (λ (f : Pass). PassHasAsked lockstep f b.asked) (sym frames) done.shown.asked;
             stands = record {
               edition = edition ∙ root.edition;
               gauges = ap (λ v. map standing v.items) gauges ∙ root.gauges;
@@ -386,19 +422,29 @@ frame_delivered s q now is_moment m made made' parts mid parts' acts acts0 acts'
 }
 
 -- a message that begins no frame and paints nothing
-pub step_delivered : (s : Script) (q now : ℕ) (is_moment : ℕ → Bool) (m : PostData) (made made' : List Entry) (parts parts' : Parts) (acts acts' : List Act) (step : LooperState → LooperState) → IsPrefix parts.frames.view.seen parts'.frames.view.seen → pass_asks parts'.frames ≡ pass_asks parts.frames → AwaitsBehind q m parts parts' → KeepsLatest parts.frames parts'.frames → SeesQuietly parts.frames parts'.frames
-    → ((a : LooperState) → after_dispatch s q now [] m a ≡ step a) → ((a : LooperState) → (step a).painted ≡ a.painted) → Plays s q step made parts made' parts' → acts' ≡ acts → Delivers s q now is_moment m made made' parts parts' acts acts'
-step_delivered s q now is_moment m made made' parts parts' acts acts' step grew asks waits keeps quiet is_step still plays same = record {
-  ids = [];
-  ran = record { frame = None; start = 0; started = refl; framed = λ fs begins is. (refl, refl, refl, refl); within = omega arith; grew = grew; asks = asks ∙ sym (append-nil (pass_asks parts.frames)); stamped = λ stamp w has fs begins. refl; in_time = still_in_time is_moment parts.frames parts'.frames keeps quiet; last = λ c e named first le none. last_quietly first parts.frames.view.seen parts'.frames.view.seen (quiet c e named) le none };
+pub step_delivered : (s : Script) (q now : ℕ) (is_moment : ℕ → Bool) (m : PostData) (made made' : List Entry) (parts parts' : Parts) (acts acts' : List Act) (step : ℕ → LooperState → LooperState)
+    → IsPrefix parts.frames.view.seen parts'.frames.view.seen → AwaitsBehind q m parts parts' → KeepsLatest parts.frames parts'.frames → SeesQuietly parts.frames parts'.frames
+    → ((at : ℕ) (a : LooperState) → after_dispatch s q at None m a ≡ step at a) → ((at : ℕ) (a : LooperState) → (step at a).painted ≡ a.painted)
+    → PlaysDelivery s q now is_moment m step made parts made' parts' → acts' ≡ acts → Delivers s q now is_moment m made made' parts parts' acts acts'
+step_delivered s q now is_moment m made made' parts parts' acts acts' step grew waits keeps quiet is_step still plays same = record {
+  ids = None;
+  ran = record {
+    frame = None;
+    framed = λ fs begins is. (refl, refl);
+    within = omega arith;
+    grew = grew;
+    stamped = λ stamp w has fs begins. refl;
+    in_time = still_in_time is_moment parts.frames parts'.frames keeps quiet;
+    last = λ c e named first le none. last_quietly first parts.frames.view.seen parts'.frames.view.seen (quiet c e named) le none;
+  };
   starts = refl;
   awaited = refl;
   waits = waits;
-  plays = λ text a unpainted is. (
-      let b : LooperState = step a in
-      let nothing : b.painted ≡ [] = still a ∙ unpainted in
-      subst (λ (z : LooperState). IsPlayed s q made' parts' (record z { painted = [] }) × (acts' ≡ acts ++ z.painted)) (sym (is_step a)) (
-        subst (λ (l : List Act). IsPlayed s q made' parts' (record b { painted = l })) nothing (plays text a is),
+  plays = λ text lockstep at may a unpainted is. (
+      let b : LooperState = step at a in
+      let nothing : b.painted ≡ [] = still at a ∙ unpainted in
+      subst (λ (z : LooperState). IsPlayed lockstep s q made' parts' (record z { painted = [] }) × (acts' ≡ acts ++ z.painted)) (sym (is_step at a)) (
+        subst (λ (l : List Act). IsPlayed lockstep s q made' parts' (record b { painted = l })) nothing (plays text lockstep at may a is),
         same ∙ (sym (append-nil acts) ∙ ap (λ (l : List Act). acts ++ l) (sym nothing)),
       ));
 }
@@ -415,11 +461,14 @@ waits_still q m parts parts' isnt keeps same = record {
     kept true false isnt = refl
     kept true true isnt = absurd (let wrong : true ≡ false = isnt in cc wrong)
 
--- the same where the pass of frames is as it was
-pub still_delivered : (s : Script) (q now : ℕ) (is_moment : ℕ → Bool) (m : PostData) (made made' : List Entry) (parts parts' : Parts) (acts acts' : List Act) (step : LooperState → LooperState) → parts'.frames ≡ parts.frames → parts'.awaits ≡ parts.awaits → (parts.awaits && starts_frame q m) ≡ false
-    → ((a : LooperState) → after_dispatch s q now [] m a ≡ step a) → ((a : LooperState) → (step a).painted ≡ a.painted) → Plays s q step made parts made' parts' → acts' ≡ acts → Delivers s q now is_moment m made made' parts parts' acts acts'
+-- the same where the pass is as it was
+pub still_delivered : (s : Script) (q now : ℕ) (is_moment : ℕ → Bool) (m : PostData) (made made' : List Entry) (parts parts' : Parts) (acts acts' : List Act) (step : ℕ → LooperState → LooperState)
+    → parts'.frames ≡ parts.frames → parts'.awaits ≡ parts.awaits → (parts.awaits && starts_frame q m) ≡ false
+    → ((at : ℕ) (a : LooperState) → after_dispatch s q at None m a ≡ step at a) → ((at : ℕ) (a : LooperState) → (step at a).painted ≡ a.painted)
+    → PlaysDelivery s q now is_moment m step made parts made' parts' → acts' ≡ acts → Delivers s q now is_moment m made made' parts parts' acts acts'
 still_delivered s q now is_moment m made made' parts parts' acts acts' step frames awaits isnt is_step still plays same =
-    step_delivered s q now is_moment m made made' parts parts' acts acts' step (subst (λ (f : Pass). IsPrefix parts.frames.view.seen f.view.seen) (sym frames) (prefix_self parts.frames.view.seen)) (ap pass_asks frames) (waits_still q m parts parts' isnt keeps awaits) keeps quiet is_step still plays same
+    step_delivered s q now is_moment m made made' parts parts' acts acts' step (subst (λ (f : Pass). IsPrefix parts.frames.view.seen f.view.seen) (sym frames) (prefix_self parts.frames.view.seen))
+    (waits_still q m parts parts' isnt keeps awaits) keeps quiet is_step still plays same
   where
     keeps : KeepsLatest parts.frames parts'.frames
     keeps = subst (KeepsLatest parts.frames) (sym frames) (λ stamp w has. has)

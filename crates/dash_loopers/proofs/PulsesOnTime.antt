@@ -71,7 +71,7 @@ looked_only s q now made parts g r acts asked = (
     told = sym (append-nil acts);
     grew = turn_grew parts.frames g asked.0 asked.0 asked.1;
     asks = ap asks_in (asked_records parts.frames g r asked);
-    plays = λ text a is. played_with s q made made parts (record parts { frames = g }) a refl refl refl refl is;
+    plays = λ lockstep text a is. played_with s q made made parts (record parts { frames = g }) a refl (ap asks_in (asked_records parts.frames g r asked)) refl refl refl is;
   },
   λ c e named. tt,
 )
@@ -81,7 +81,6 @@ pub looked_parts : (parts : Parts) (g : Pass) (r : Option ℕ) → AskedBy parts
 looked_parts parts g r asked = record {
   others = refl;
   frames = frame_turn_badge parts.frames g asked.0 asked.0 asked.1;
-  client = refl;
   awaits = turn_may_await parts (record parts { frames = g }) asked.0 asked.0 asked.1 refl refl;
 }
 

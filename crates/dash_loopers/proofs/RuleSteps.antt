@@ -23,7 +23,10 @@ use Rattle.loop_model.specs.Posts.{moment_after}
 use Rattle.run_model.specs.Loopers.{LooperState, SentCall, fires, reaction, reacted, IsSent}
 use Rattle.run_model.specs.Parts.{sent_on}
 use Rattle.run_model.proofs.RunLaws.{AreFor-snoc}
+use Rattle.choreographer.specs.Known.{Pass}
+use Rattle.run_model.specs.FrameRecords.{as_told}
 use Rattle.dash_hall.specs.Growth.{own, Makes}
+use Rattle.dash_hall.specs.Hosts.{pass_asks}
 use Rattle.dash_loopers.specs.declared.view_root.ViewRoot.{ViewRoot}
 use Rattle.dash_loopers.specs.declared.player.Parts.{Parts}
 use Rattle.dash_loopers.specs.Players.{PlaceWithout}
@@ -55,7 +58,7 @@ root_sent s q tokens a xs root h = record { edition = h.edition; gauges = h.gaug
 -- a call on the own queue
 pub called_here : (s : Script) (q : ℕ) (post : PostData) (timing : Timing) (p p' : Sender) (parts : Parts) → Makes p p' (bare_call (Post post)) []
     → Plays s q (with_call q (bare_call (Post post)) timing) (calls_of p) parts (calls_of p') parts
-called_here s q post timing p p' parts m text a is = played_call s q (bare_call (Post post)) timing p p' parts refl m a is
+called_here s q post timing p p' parts m lockstep text a is = played_call s q (bare_call (Post post)) timing p p' parts refl m a is
 
 -- which queue stands at which place
 same_place : (q k k' j j' : ℕ) → PlaceWithout q k j → PlaceWithout q k' j' → k ≡ k' → j' ≡ j
@@ -65,8 +68,8 @@ same_place q k k' j j' (inr p) (inl p') is = (let a : q < k = p.0 in let b : k' 
 same_place q k k' j j' (inr p) (inr p') is = (let a : k ≡ j + 1 = p.1 in let b : k' ≡ j' + 1 = p'.1 in omega (arith, is))
 
 -- a call on another queue, by its poster at place j among the others
-module _ (s : Script) (q k j : ℕ) (post : PostData) (timing : Timing) (p p' : Sender) (made : List Entry) (parts parts' : Parts) (place : PlaceWithout q k j) (at : slice_get parts.others.items j ≡ Some p) (m : Makes p p' (bare_call (Post post)) [])
-    (others : parts'.others.items ≡ set parts.others.items j p') (root : parts'.root ≡ parts.root) (fired : parts'.fired.items ≡ parts.fired.items) (a : LooperState) (is : IsPlayed s q made parts a) where
+module _ (lockstep : Bool) (s : Script) (q k j : ℕ) (post : PostData) (timing : Timing) (p p' : Sender) (made : List Entry) (parts parts' : Parts) (place : PlaceWithout q k j) (at : slice_get parts.others.items j ≡ Some p) (m : Makes p p' (bare_call (Post post)) [])
+    (others : parts'.others.items ≡ set parts.others.items j p') (frames : parts'.frames ≡ parts.frames) (root : parts'.root ≡ parts.root) (fired : parts'.fired.items ≡ parts.fired.items) (a : LooperState) (is : IsPlayed lockstep s q made parts a) where
   -- what is sent with this call more
   sent_more : List SentCall
   sent_more = a.sent ++ record { queue = k; ask = Asks (bare_call (Post post)); reply = None; timing = timing } ∷ []
@@ -86,16 +89,15 @@ module _ (s : Script) (q k j : ℕ) (post : PostData) (timing : Timing) (p p' : 
       subst (λ (z : Sender). AreFor IsSent [] (sent_on k' sent_more) (own z)) (sym there) (none_for k' k a.sent (bare_call (Post post)) timing (own (get_or items j' d)) apart (is.elsewhere k' j' d place' near))) in
       dite (ℕ_discrete k k') hit miss
 
-  pub called_there : IsPlayed s q made parts' (with_call k (bare_call (Post post)) timing a)
+  pub called_there : IsPlayed lockstep s q made parts' (with_call k (bare_call (Post post)) timing a)
   unfolding sent_more
   called_there =
       let items = parts.others.items in
       let as_many : length parts'.others.items ≡ length items = ap length others ∙ length-set items j p' in
       record {
-        shown = subst (λ (v : ViewRoot). IsShown s q made v (with_call k (bare_call (Post post)) timing a)) (sym root) (record {
+        shown = subst (λ (v : ViewRoot). IsShown lockstep s q made parts'.frames v (with_call k (bare_call (Post post)) timing a)) (sym root) (record {
           calls = none_for q k a.sent (bare_call (Post post)) timing made (λ e. without_self q k j place (sym e)) is.shown.calls;
-          asked = is.shown.asked;
-          turns = is.shown.turns;
+          asked = ap (λ (f : Pass). map (as_told lockstep) (pass_asks f)) frames ∙ is.shown.asked;
           stands = root_sent s q (tokens_in made) a sent_more parts.root is.shown.stands;
         });
         elsewhere = λ k' j' d place' near. subst (λ (l : List Sender). AreFor IsSent [] (sent_on k' sent_more) (own (slice_index_or l j' d))) (sym others) (entries_there k' j' d place' (omega (arith, near, as_many)));
@@ -221,17 +223,16 @@ message_is s now r looper when post a is_looper is_post is_when =
     λ i. with_call (is_looper i) (bare_call (Post ((is_post ∙ ap (sent_by s r.to_handler r.to_what) is_when) i))) (At now) a
 
 -- a step of the same state in other words
-pub played_as : (s : Script) (q : ℕ) (made : List Entry) (parts : Parts) (a b : LooperState) → a ≡ b → IsPlayed s q made parts a → IsPlayed s q made parts b
-played_as s q made parts a b same is = subst (IsPlayed s q made parts) same is
+pub played_as : (lockstep : Bool) (s : Script) (q : ℕ) (made : List Entry) (parts : Parts) (a b : LooperState) → a ≡ b → IsPlayed lockstep s q made parts a → IsPlayed lockstep s q made parts b
+played_as lockstep s q made parts a b same is = subst (IsPlayed lockstep s q made parts) same is
 
 -- the rule is counted
-counted : (s : Script) (q place n : ℕ) (made : List Entry) (parts parts' : Parts) (a : LooperState) → parts'.fired.items ≡ slice_set parts.fired.items place (n + 1) → AreAllButCounts parts parts' → IsPlayed s q made parts a
-    → IsPlayed s q made parts' (record a { fired = slice_set a.fired place (n + 1) })
-counted s q place n made parts parts' a fired same is = record {
-  shown = subst (λ (v : ViewRoot). IsShown s q made v (record a { fired = slice_set a.fired place (n + 1) })) (sym same.2) (record {
+counted : (lockstep : Bool) (s : Script) (q place n : ℕ) (made : List Entry) (parts parts' : Parts) (a : LooperState) → parts'.fired.items ≡ slice_set parts.fired.items place (n + 1) → AreAllButCounts parts parts' → IsPlayed lockstep s q made parts a
+    → IsPlayed lockstep s q made parts' (record a { fired = slice_set a.fired place (n + 1) })
+counted lockstep s q place n made parts parts' a fired same is = record {
+  shown = subst (λ (v : ViewRoot). IsShown lockstep s q made parts'.frames v (record a { fired = slice_set a.fired place (n + 1) })) (sym same.2) (record {
     calls = is.shown.calls;
-    asked = is.shown.asked;
-    turns = is.shown.turns;
+    asked = ap (λ (f : Pass). map (as_told lockstep) (pass_asks f)) same.1 ∙ is.shown.asked;
     stands = record { edition = is.shown.stands.edition; gauges = is.shown.stands.gauges; lines = is.shown.stands.lines; barrier = is.shown.stands.barrier; barriers = is.shown.stands.barriers; painted = is.shown.stands.painted };
   });
   elsewhere = subst (λ (l : List Sender). AreMadeElsewhere q l (record a { fired = slice_set a.fired place (n + 1) })) (λ i. (sym same.0 i).items) is.elsewhere;
@@ -242,27 +243,27 @@ counted s q place n made parts parts' a fired same is = record {
 -- a rule of the message whose count is below its limit is counted, and its message is sent
 pub plays_fired : (s : Script) (q now : ℕ) (m : PostData) (place : ℕ) (r : Rule) (made made' : List Entry) (parts parts' parts'' : Parts) → (m.handler == r.handler) ≡ true → (m.what == r.what) ≡ true → FiresAt place r.times parts parts' true
     → Plays s q (λ a. record a { sent = a.sent ++ reaction s now r ∷ [] }) made parts' made' parts'' → Plays s q (rule_met s now m place r) made parts made' parts''
-plays_fired s q now m place r made made' parts parts' parts'' h w (n, at, lt, fired, same) sends text a is =
+plays_fired s q now m place r made made' parts parts' parts'' h w (n, at, lt, fired, same) sends lockstep text a is =
     let at_a : slice_get a.fired place ≡ Some n = ap (λ (l : List ℕ). slice_get l place) (sym is.fired) ∙ at in
-    played_as s q made' parts'' _ _ (sym (rule_fired s now m place r a n at_a (fires_below m r n h w lt))) (sends text (record a { fired = slice_set a.fired place (n + 1) }) (counted s q place n made parts parts' a fired same is))
+    played_as lockstep s q made' parts'' _ _ (sym (rule_fired s now m place r a n at_a (fires_below m r n h w lt))) (sends lockstep text (record a { fired = slice_set a.fired place (n + 1) }) (counted lockstep s q place n made parts parts' a fired same is))
 
 -- one whose count is at its limit does nothing
 pub plays_used_up : (s : Script) (q now : ℕ) (m : PostData) (place : ℕ) (r : Rule) (made : List Entry) (parts parts' : Parts) → FiresAt place r.times parts parts' false → Plays s q (rule_met s now m place r) made parts made parts'
-plays_used_up s q now m place r made parts parts' (same, used_up) text a is =
+plays_used_up s q now m place r made parts parts' (same, used_up) lockstep text a is =
     let never : (n : ℕ) → slice_get a.fired place ≡ Some n → fires m r n ≡ false = λ n at.
     (let many = used_up n (ap (λ (l : List ℕ). slice_get l place) is.fired ∙ at) in fires_not m r n (inr many)) in
-    subst (λ (z : Parts). IsPlayed s q made z (rule_met s now m place r a)) (sym same) (played_as s q made parts _ _ (sym (rule_missed s now m place r a never)) is)
+    subst (λ (z : Parts). IsPlayed lockstep s q made z (rule_met s now m place r a)) (sym same) (played_as lockstep s q made parts _ _ (sym (rule_missed s now m place r a never)) is)
 
 -- one of another message does nothing
 pub plays_other : (s : Script) (q now : ℕ) (m : PostData) (place : ℕ) (r : Rule) (made : List Entry) (parts : Parts) → (m.handler ≢ r.handler) ⊎ (m.what ≢ r.what) → Plays s q (rule_met s now m place r) made parts made parts
-plays_other s q now m place r made parts other text a is =
-    played_as s q made parts _ _ (sym (rule_missed s now m place r a (λ n at. fires_not m r n (inl other)))) is
+plays_other s q now m place r made parts other lockstep text a is =
+    played_as lockstep s q made parts _ _ (sym (rule_missed s now m place r a (λ n at. fires_not m r n (inl other)))) is
 
 -- the message of a rule was sent
 pub plays_sent : (s : Script) (q now : ℕ) (r : Rule) (looper when : ℕ) (post : PostData) (made made' : List Entry) (parts parts' : Parts) → looper ≡ looper_of s r.to_handler → post ≡ sent_by s r.to_handler r.to_what when → when ≡ moment_after now r.delay
     → Plays s q (with_call looper (bare_call (Post post)) (At now)) made parts made' parts' → Plays s q (λ a. record a { sent = a.sent ++ reaction s now r ∷ [] }) made parts made' parts'
-plays_sent s q now r looper when post made made' parts parts' is_looper is_post is_when plays text a is =
-    played_as s q made' parts' _ _ (message_is s now r looper when post a is_looper is_post is_when) (plays text a is)
+plays_sent s q now r looper when post made made' parts parts' is_looper is_post is_when plays lockstep text a is =
+    played_as lockstep s q made' parts' _ _ (message_is s now r looper when post a is_looper is_post is_when) (plays lockstep text a is)
 
 -- the rule at a place of the same list
 pub rule_at : (xs ys : List Rule) (place : ℕ) (d : Rule) → ys ≡ xs → place < length ys → slice_get xs place ≡ Some (get_or ys place d)
@@ -271,12 +272,12 @@ rule_at xs ys place d same near = ap (λ (l : List Rule). slice_get l place) (sy
 -- one rule more
 pub plays_next : (s : Script) (q now : ℕ) (m : PostData) (place : ℕ) (r : Rule) (made made' made'' : List Entry) (parts parts' parts'' : Parts) → slice_get s.rules place ≡ Some r → Plays s q (rules_met s now m 0 (take place s.rules)) made parts made' parts'
     → Plays s q (rule_met s now m place r) made' parts' made'' parts'' → Plays s q (rules_met s now m 0 (take (place + 1) s.rules)) made parts made'' parts''
-plays_next s q now m place r made made' made'' parts parts' parts'' at before next text a is =
-    played_as s q made'' parts'' _ _ (rules_next s now m place r a at) (next text (rules_met s now m 0 (take place s.rules) a) (before text a is))
+plays_next s q now m place r made made' made'' parts parts' parts'' at before next lockstep text a is =
+    played_as lockstep s q made'' parts'' _ _ (rules_next s now m place r a at) (next lockstep text (rules_met s now m 0 (take place s.rules) a) (before lockstep text a is))
 
 -- all rules of the message have been met
 pub plays_all : (s : Script) (q now : ℕ) (m : PostData) (place : ℕ) (made made' : List Entry) (parts parts' : Parts) → length s.rules ≤ place → Plays s q (rules_met s now m 0 (take place s.rules)) made parts made' parts' → Plays s q (reacted s now m) made parts made' parts'
-plays_all s q now m place made made' parts parts' all plays text a is =
+plays_all s q now m place made made' parts parts' all plays lockstep text a is =
     let taken : take place s.rules ≡ s.rules = take_all place s.rules all in
     let many : length a.fired ≡ length s.rules = sym (ap length is.fired) ∙ is.counts in
-    played_as s q made' parts' _ _ (ap (λ (l : List Rule). rules_met s now m 0 l a) taken ∙ rules_are s now m a many) (plays text a is)
+    played_as lockstep s q made' parts' _ _ (ap (λ (l : List Rule). rules_met s now m 0 l a) taken ∙ rules_are s now m a many) (plays lockstep text a is)

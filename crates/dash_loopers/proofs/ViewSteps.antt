@@ -3,7 +3,7 @@ use Rattle.std.proofs.Common.{◌≡◌, ◌≢◌, ℕ, suc, ◌+◌, ◌-◌, 
 use Rattle.std.specs.Prelude.{◌||◌, replicate, slice_get, slice_index, slice_index_or, slice_set, take, Result, Ok, Err, OnOk, nat_le, if◌then◌else◌}
 use Rattle.std.specs.List.{flat_map, filter_map, cons_option, enumerate_from}
 use Rattle.std.specs.Option.{option_map, option_map_or}
-use Rattle.std.proofs.lemmas.List.{append-nil, map-set, length-append, length-map, length-take-le, take_all, take_more, flat_map_more, get_or_default}
+use Rattle.std.proofs.lemmas.List.{append-nil, map-append, map-set, length-append, length-map, length-take-le, take_all, take_more, flat_map_more, get_or_default}
 use Rattle.std.proofs.lemmas.Option.{slice_get-map, get_or_from_slice_get, slice_get_within}
 use Rattle.std.proofs.Math.Seq.{map-set_same}
 use Rattle.std.proofs.lemmas.Bool.{le-leb}
@@ -26,22 +26,23 @@ use Rattle.run_model.specs.Parts.{animation_ran, sent_on}
 use Rattle.run_model.proofs.RunLaws.{AreFor-snoc}
 use Rattle.message_pool.specs.Passes.{Tally}
 use Rattle.dash_hall.specs.Growth.{Makes, GoesOn}
-use Rattle.dash_hall.specs.Hosts.{PostsFrame, PlacesBy, sends_by, pass_asks}
-use Rattle.run_model.specs.FrameRecords.{FrameAsk, Posts}
+use Rattle.dash_hall.specs.Hosts.{PlacesBy, sends_by, pass_asks}
+use Rattle.run_model.specs.FrameRecords.{Posts, as_told}
 use Rattle.dash_hall.proofs.FramePosts.{posts_frame_by}
 use Rattle.dash_loopers.specs.declared.view_root.Gauge.{Gauge as ViewGauge}
 use Rattle.dash_loopers.specs.declared.view_root.Painted.{Painted}
 use Rattle.dash_loopers.specs.declared.view_root.ViewRoot.{ViewRoot}
-use Rattle.dash_loopers.specs.Played.{standing, gauge_fixed, fixed_by, IsBarrierOf, paint_of, paint_of_gauge, IsRootOf, calls_of, IsShown, StepsRoot}
+use Rattle.dash_loopers.specs.Played.{standing, gauge_fixed, fixed_by, IsBarrierOf, paint_of, paint_of_gauge, IsRootOf, calls_of, IsShown, StepsRoot, MayTell}
+use Rattle.dash_loopers.specs.Places.{animated, HasGauges, HasPainted}
 use Rattle.dash_loopers.proofs.LooperLists.{at_seam}
 use Rattle.dash_loopers.proofs.MoreCalls.{calls_more, calls_same, tokens_more, sent_here}
 
 -- ---- calls
 
--- what an answer brings under facts of its own is brought by it under them
-pub ok_within : {A E : Type 0} (r : Result A E) (P Q R : Type 0) → (P → Q → OnOk r R) → OnOk r (P → Q → R)
-ok_within (Ok x) P Q R f = f
-ok_within (Err e) P Q R f = tt
+-- what an answer brings of each script's looper under a fact is brought by it
+pub ok_within : {A E : Type 0} (r : Result A E) (P R : Script → ℕ → Type 0) → ((s : Script) (q : ℕ) → HasText s → P s q → OnOk r (R s q)) → OnOk r ((s : Script) (q : ℕ) → HasText s → P s q → R s q)
+ok_within (Ok x) P R f = f
+ok_within (Err e) P R f = tt
 
 -- the call on the own queue that the state was to make was made
 pub sent_more : (q now : ℕ) (ask : Ask) (a : LooperState) (made : List Entry) (e : Entry) → AreFor IsSent [] (sent_on q a.sent) made → bare_call e.call ≡ call_of (tokens_in made) ask
@@ -62,9 +63,9 @@ barrier_alike tokens None (Some t) h = absurd h
 barrier_alike tokens (Some k) None h = absurd h
 
 -- a barrier was posted
-pub barrier_posted : (s : Script) (q now : ℕ) (p p' : Sender) (token : ℕ) (root : ViewRoot) (a : LooperState) → Makes p p' (Barrier 0) (token ∷ []) → IsShown s q (calls_of p) root a
-    → IsShown s q (calls_of p') (record root { barrier = Some token }) (and_sends q now (Asks (Barrier 0)) (record a { barrier = Some a.barriers; barriers = a.barriers + 1 }))
-barrier_posted s q now p p' token root a m h =
+pub barrier_posted : (lockstep : Bool) (s : Script) (q now : ℕ) (p p' : Sender) (token : ℕ) (pass : Pass) (root : ViewRoot) (a : LooperState) → Makes p p' (Barrier 0) (token ∷ []) → IsShown lockstep s q (calls_of p) pass root a
+    → IsShown lockstep s q (calls_of p') pass (record root { barrier = Some token }) (and_sends q now (Asks (Barrier 0)) (record a { barrier = Some a.barriers; barriers = a.barriers + 1 }))
+barrier_posted lockstep s q now p p' token pass root a m h =
     let b = record a { barrier = Some a.barriers; barriers = a.barriers + 1 } in
     let made = calls_of p in
     let before = tokens_in made in
@@ -72,42 +73,42 @@ barrier_posted s q now p p' token root a m h =
     let count : a.barriers ≡ length before = h.stands.barriers in
     let more : a.barriers + 1 ≡ length (tokens_in (made ++ m.entry ∷ [])) = length_more before token a.barriers count ∙ ap length (sym tokens) in
     let got : slice_get (tokens_in (made ++ m.entry ∷ [])) a.barriers ≡ Some token = (λ i. slice_get (tokens i) (count i)) ∙ at_seam before token [] in
-    subst (λ (l : List Entry). IsShown s q l (record root { barrier = Some token }) (and_sends q now (Asks (Barrier 0)) b)) (sym (calls_more p p' (Barrier 0) (token ∷ []) refl m)) (record {
+    subst (λ (l : List Entry). IsShown lockstep s q l pass (record root { barrier = Some token }) (and_sends q now (Asks (Barrier 0)) b)) (sym (calls_more p p' (Barrier 0) (token ∷ []) refl m)) (record {
       calls = sent_more q now (Asks (Barrier 0)) b made m.entry h.calls m.makes;
       asked = h.asked;
-      turns = h.turns;
       stands = record { edition = h.stands.edition; gauges = h.stands.gauges; lines = h.stands.lines; barrier = got; barriers = more; painted = h.stands.painted };
     })
 
--- a frame callback was posted for now
-pub frame_posted : (s : Script) (q h u phase id : ℕ) (p p' : Sender) (root : ViewRoot) (pass : Pass) (a : LooperState) → PostsFrame h u phase id 0 p p' root.pass pass → IsShown s q (calls_of p) root a
-    → IsShown s q (calls_of p') (record root { pass = pass }) (and_posts_frame u phase id a)
-frame_posted s q h u phase id p p' root pass a posts shown =
-    subst (λ (l : List Entry). IsShown s q l (record root { pass = pass }) (and_posts_frame u phase id a)) (sym (calls_same p p' posts.calls)) (record {
+-- one is due at a moment as it is told at each time that a run may tell of that moment
+due_as_told : (lockstep : Bool) (u at : ℕ) → MayTell lockstep u at → (if lockstep then frame_due u 0 else 0) ≡ (if lockstep then frame_due at 0 else 0)
+due_as_told true u at may = ap (λ (n : ℕ). frame_due n 0) (sym (may refl))
+due_as_told false u at may = refl
+
+-- a frame callback was posted for now, by what a host's posting answers
+pub frame_placed : (lockstep : Bool) (s : Script) (q h h' u at phase id : ℕ) (p p' : Sender) (t t' : Tally) (pass pass' : Pass) (root : ViewRoot) → h' ≡ h → GoesOn p p' t t' → MayTell lockstep u at
+    → PlacesBy pass pass' u (sends_by h p) (sends_by h' p') phase id 0 → StepsRoot lockstep s q (and_posts_frame at phase id) (calls_of p) pass root (calls_of p') pass' root
+frame_placed lockstep s q h h' u at phase id p p' t t' pass pass' root same on may placed text a shown =
+    let by : PlacesBy pass pass' u (sends_by h p) (sends_by h p') phase id 0 = subst (λ (n : ℕ). PlacesBy pass pass' u (sends_by h p) (sends_by n p') phase id 0) same placed in
+    let posts = posts_frame_by h u phase id 0 p p' t t' pass pass' on by in
+    let tell = as_told lockstep in
+    let asked : map tell (pass_asks pass') ≡ map tell (a.asked ++ Posts phase (frame_due at 0) id None ∷ []) =
+    ap (map tell) posts.asks ∙ (map-append tell (pass_asks pass) (Posts phase (frame_due u 0) id None ∷ [])
+    ∙ ((λ i. shown.asked i ++ Posts phase (due_as_told lockstep u at may i) id None ∷ []) ∙ sym (map-append tell a.asked (Posts phase (frame_due at 0) id None ∷ [])))) in
+    subst (λ (l : List Entry). IsShown lockstep s q l pass' root (and_posts_frame at phase id a)) (sym (calls_same p p' posts.calls)) (record {
       calls = shown.calls;
-      asked = posts.asks ∙ ap (λ (l : List FrameAsk). l ++ Posts phase (frame_due u 0) id None ∷ []) shown.asked;
-      turns = (
-          let had = shown.turns in
-          let one = posts.turn in
-          omega (arith, had, one, length-append a.posted (Posts phase (frame_due u 0) id None ∷ [])));
+      asked = asked;
       stands = record { edition = shown.stands.edition; gauges = shown.stands.gauges; lines = shown.stands.lines; barrier = shown.stands.barrier; barriers = shown.stands.barriers; painted = shown.stands.painted };
     })
 
--- the same by what a host's posting answers
-pub frame_placed : (s : Script) (q h h' u phase id : ℕ) (p p' : Sender) (t t' : Tally) (root : ViewRoot) (pass : Pass) → h' ≡ h → GoesOn p p' t t' → PlacesBy root.pass pass u (sends_by h p) (sends_by h' p') phase id 0
-    → StepsRoot s q (and_posts_frame u phase id) (calls_of p) root (calls_of p') (record root { pass = pass })
-frame_placed s q h h' u phase id p p' t t' root pass same on placed text a shown =
-    let by : PlacesBy root.pass pass u (sends_by h p) (sends_by h p') phase id 0 = subst (λ (n : ℕ). PlacesBy root.pass pass u (sends_by h p) (sends_by n p') phase id 0) same placed in
-    frame_posted s q h u phase id p p' root pass a (posts_frame_by h u phase id 0 p p' t t' root.pass pass on by) shown
-
 -- a traversal is requested while none is under way
-pub requested_anew : (s : Script) (q now now' phase : ℕ) (p p' : Sender) (token : ℕ) (root : ViewRoot) (made : List Entry) (root' : ViewRoot) → is_some root.barrier ≡ false → Makes p p' (Barrier 0) (token ∷ []) → now' ≡ now → (root.edition ≡ s.edition → phase ≡ traversal_phase s)
-    → StepsRoot s q (and_posts_frame now' phase 1000016) (calls_of p') (record root { barrier = Some token }) made root' → StepsRoot s q (traversal_requested s q now) (calls_of p) root made root'
-requested_anew s q now now' phase p p' token root made root' none m same of_edition rest text a h =
+pub requested_anew : (lockstep : Bool) (s : Script) (q now phase : ℕ) (p p' : Sender) (token : ℕ) (made : List Entry) (pass pass' : Pass) (root root' : ViewRoot) → is_some root.barrier ≡ false
+    → Makes p p' (Barrier 0) (token ∷ []) → (root.edition ≡ s.edition → phase ≡ traversal_phase s) → StepsRoot lockstep s q (and_posts_frame now phase 1000016) (calls_of p') pass (record root { barrier = Some token }) made pass' root'
+    → StepsRoot lockstep s q (traversal_requested s q now) (calls_of p) pass root made pass' root'
+requested_anew lockstep s q now phase p p' token made pass pass' root root' none m of_edition rest text a h =
     let b = and_sends q now (Asks (Barrier 0)) (record a { barrier = Some a.barriers; barriers = a.barriers + 1 }) in
     let still : is_some a.barrier ≡ false = barrier_alike (tokens_in (calls_of p)) a.barrier root.barrier h.stands.barrier ∙ none in
-    subst (λ (t : Bool). IsShown s q made root' (if t then a else and_posts_frame now (traversal_phase s) traversal_id b)) (sym still)
-    (subst (λ (n : ℕ). IsShown s q made root' (and_posts_frame now n traversal_id b)) (of_edition h.stands.edition) (subst (λ (n : ℕ). IsShown s q made root' (and_posts_frame n phase traversal_id b)) same (rest text b (barrier_posted s q now p p' token root a m h))))
+    subst (λ (t : Bool). IsShown lockstep s q made pass' root' (if t then a else and_posts_frame now (traversal_phase s) traversal_id b)) (sym still)
+    (subst (λ (n : ℕ). IsShown lockstep s q made pass' root' (and_posts_frame now n traversal_id b)) (of_edition h.stands.edition) (rest text b (barrier_posted lockstep s q now p p' token pass root a m h)))
 
 -- ---- gauges
 
@@ -139,38 +140,37 @@ gauge_of s q g tokens v root a at h =
 -- a gauge was put in the place of one that is as much the looper's own and has its step
 pub record IsPut (g : ℕ) (w : ViewGauge) (root root' : ViewRoot) : Type 0 where
   pub gauges : root'.gauges.items ≡ slice_set root.gauges.items g w
-  pub same : (root'.barrier ≡ root.barrier) × (root'.pass ≡ root.pass) × (root'.painted ≡ root.painted) × (root'.edition ≡ root.edition)
+  pub same : (root'.barrier ≡ root.barrier) × (root'.painted ≡ root.painted) × (root'.edition ≡ root.edition)
 
-pub gauge_put : (s : Script) (q g : ℕ) (v w : ViewGauge) (made : List Entry) (root root' : ViewRoot) (a : LooperState) → IsPut g w root root' → slice_get root.gauges.items g ≡ Some v → gauge_fixed w ≡ gauge_fixed v
-    → IsShown s q made root a → IsShown s q made root' (with_gauge g (standing w) a)
-gauge_put s q g v w made root root' a put at alike h = record {
+pub gauge_put : (lockstep : Bool) (s : Script) (q g : ℕ) (v w : ViewGauge) (made : List Entry) (pass : Pass) (root root' : ViewRoot) (a : LooperState) → IsPut g w root root' → slice_get root.gauges.items g ≡ Some v → gauge_fixed w ≡ gauge_fixed v
+    → IsShown lockstep s q made pass root a → IsShown lockstep s q made pass root' (with_gauge g (standing w) a)
+gauge_put lockstep s q g v w made pass root root' a put at alike h = record {
   calls = h.calls;
-  asked = ap pass_asks put.same.1 ∙ h.asked;
-  turns = ap (λ (f : Pass). f.view.turns) put.same.1 ∙ h.turns;
+  asked = h.asked;
   stands = record {
-    edition = put.same.3 ∙ h.stands.edition;
+    edition = put.same.2 ∙ h.stands.edition;
     gauges = ap (map standing) put.gauges ∙ (map-set standing root.gauges.items g w ∙ ap (λ (l : List GaugeState). slice_set l g (standing w)) h.stands.gauges);
     lines = ap (map gauge_fixed) put.gauges ∙ (map-set_same gauge_fixed root.gauges.items g w v (alike ∙ ap gauge_fixed (sym (get_or_from_slice_get root.gauges.items g v v at))) ∙ h.stands.lines);
     barrier = subst (λ (o : Option ℕ). IsBarrierOf (tokens_in made) a.barrier o) (sym put.same.0) h.stands.barrier;
     barriers = h.stands.barriers;
-    painted = ap (λ (x : Vec Painted Global). map paint_of x.items) put.same.2 ∙ h.stands.painted;
+    painted = ap (λ (x : Vec Painted Global). map paint_of x.items) put.same.1 ∙ h.stands.painted;
   };
 }
 
 -- ---- a message with an object
 
 -- the gauge is another looper's
-pub sets_no_other : (s : Script) (q now g target : ℕ) (v : ViewGauge) (made : List Entry) (root : ViewRoot) → slice_get root.gauges.items g ≡ Some v → v.own ≡ false → StepsRoot s q (object_set s q now g target) made root made root
-sets_no_other s q now g target v made root at other text a h =
+pub sets_no_other : (lockstep : Bool) (s : Script) (q now g target : ℕ) (v : ViewGauge) (made : List Entry) (pass : Pass) (root : ViewRoot) → slice_get root.gauges.items g ≡ Some v → v.own ≡ false → StepsRoot lockstep s q (object_set s q now g target) made pass root made pass root
+sets_no_other lockstep s q now g target v made pass root at other text a h =
     let is = gauge_of s q g (tokens_in made) v root a at h.stands in
     let same : object_set s q now g target a ≡ a =
     ap (λ (b : Bool). if b then option_map_or (λ x. target_set s q now g target x a) (slice_get a.gauges g) a else a) (sym is.own ∙ other) in
-    subst (IsShown s q made root) (sym same) h
+    subst (IsShown lockstep s q made pass root) (sym same) h
 
 -- the state's step is that of the gauge
-sets_own : (s : Script) (q now g target : ℕ) (v : ViewGauge) (made : List Entry) (root : ViewRoot) (a : LooperState) → slice_get root.gauges.items g ≡ Some v → v.own ≡ true → IsShown s q made root a
+sets_own : (lockstep : Bool) (s : Script) (q now g target : ℕ) (v : ViewGauge) (made : List Entry) (pass : Pass) (root : ViewRoot) (a : LooperState) → slice_get root.gauges.items g ≡ Some v → v.own ≡ true → IsShown lockstep s q made pass root a
     → object_set s q now g target a ≡ target_set s q now g target (standing v) a
-sets_own s q now g target v made root a at mine h =
+sets_own lockstep s q now g target v made pass root a at mine h =
     let is = gauge_of s q g (tokens_in made) v root a at h.stands in
     ap (λ (b : Bool). if b then option_map_or (λ x. target_set s q now g target x a) (slice_get a.gauges g) a else a) (sym is.own ∙ mine)
     ∙ ap (λ (o : Option GaugeState). option_map_or (λ x. target_set s q now g target x a) o a) is.stands
@@ -188,16 +188,16 @@ starts_so true c is = refl
 starts_so false c is = ap not is
 
 -- the gauge moves already, or stands at the target
-pub sets_target : (s : Script) (q now g target : ℕ) (v : ViewGauge) (made : List Entry) (root root' : ViewRoot) → slice_get root.gauges.items g ≡ Some v → v.own ≡ true → (v.animating || (v.value == target)) ≡ true
-    → IsPut g (with_target target v) root root' → StepsRoot s q (object_set s q now g target) made root made root'
-sets_target s q now g target v made root root' at mine rests put text a h =
+pub sets_target : (lockstep : Bool) (s : Script) (q now g target : ℕ) (v : ViewGauge) (made : List Entry) (pass : Pass) (root root' : ViewRoot) → slice_get root.gauges.items g ≡ Some v → v.own ≡ true → (v.animating || (v.value == target)) ≡ true
+    → IsPut g (with_target target v) root root' → StepsRoot lockstep s q (object_set s q now g target) made pass root made pass root'
+sets_target lockstep s q now g target v made pass root root' at mine rests put text a h =
     let x = standing v in
     let step : object_set s q now g target a ≡ with_gauge g (record x { target = target }) a =
-    sets_own s q now g target v made root a at mine h
+    sets_own lockstep s q now g target v made pass root a at mine h
     ∙ ap (λ (b : Bool). if b then with_gauge g (record x { target = target }) a else traversal_requested s q now (and_posts_frame now animation_phase (animation_id g) (with_gauge g (record { value = x.value; target = target; animating = true }) a))) rests in
     let put_is : with_gauge g (standing (with_target target v)) a ≡ with_gauge g (record x { target = target }) a =
     ap (λ (b : Bool). with_gauge g (record { value = v.value; target = target; animating = b }) a) (rests_so v.animating (v.value == target) rests) in
-    subst (IsShown s q made root') (put_is ∙ sym step) (gauge_put s q g v (with_target target v) made root root' a put at refl h)
+    subst (IsShown lockstep s q made pass root') (put_is ∙ sym step) (gauge_put lockstep s q g v (with_target target v) made pass root root' a put at refl h)
 
 -- the callback of a gauge's animation, by its number
 abbrev pub capped : ℕ → ℕ
@@ -207,90 +207,87 @@ few : (g n id : ℕ) → g < n → n ≤ 16 → id ≡ capped g → id ≡ anima
 few g n id lt most is = omega (arith, lt, most, is)
 
 -- the gauge begins to move
-pub sets_off : (s : Script) (q now now' g target id : ℕ) (v : ViewGauge) (made made1 made2 : List Entry) (root root1 root2 root3 : ViewRoot) → slice_get root.gauges.items g ≡ Some v → v.own ≡ true → (v.animating || (v.value == target)) ≡ false
-    → IsPut g (with_target target v) root root1 → id ≡ capped g → now' ≡ now → StepsRoot s q (and_posts_frame now 1 id) made root1 made1 root2 → StepsRoot s q (traversal_requested s q now') made1 root2 made2 root3
-    → StepsRoot s q (object_set s q now g target) made root made2 root3
-sets_off s q now now' g target id v made made1 made2 root root1 root2 root3 at mine starts put is_id same posts requests text a h =
+pub sets_off : (lockstep : Bool) (s : Script) (q now g target id : ℕ) (v : ViewGauge) (made made1 made2 : List Entry) (pass pass1 pass2 : Pass) (root root1 root2 root3 : ViewRoot) → slice_get root.gauges.items g ≡ Some v → v.own ≡ true → (v.animating || (v.value == target)) ≡ false
+    → IsPut g (with_target target v) root root1 → id ≡ capped g → StepsRoot lockstep s q (and_posts_frame now 1 id) made pass root1 made1 pass1 root2 → StepsRoot lockstep s q (traversal_requested s q now) made1 pass1 root2 made2 pass2 root3
+    → StepsRoot lockstep s q (object_set s q now g target) made pass root made2 pass2 root3
+sets_off lockstep s q now g target id v made made1 made2 pass pass1 pass2 root root1 root2 root3 at mine starts put is_id posts requests text a h =
     let x = standing v in
     let is = gauge_of s q g (tokens_in made) v root a at h.stands in
     let b = with_gauge g (record { value = v.value; target = target; animating = true }) a in
     let step : object_set s q now g target a ≡ traversal_requested s q now (and_posts_frame now 1 (animation_id g) b) =
-    sets_own s q now g target v made root a at mine h
+    sets_own lockstep s q now g target v made pass root a at mine h
     ∙ ap (λ (t : Bool). if t then with_gauge g (record x { target = target }) a else traversal_requested s q now (and_posts_frame now 1 (animation_id g) b)) starts in
-    let placed : IsShown s q made root1 b = subst (λ (t : Bool). IsShown s q made root1 (with_gauge g (record { value = v.value; target = target; animating = t }) a)) (starts_so v.animating (v.value == target) starts) (gauge_put s q g v (with_target target v) made root root1 a put at refl h) in
-    let posted : IsShown s q made1 root2 (and_posts_frame now 1 (animation_id g) b) = subst (λ (n : ℕ). IsShown s q made1 root2 (and_posts_frame now 1 n b)) (few g (length s.gauges) id is.within text.gauges is_id) (posts text b placed) in
-    subst (IsShown s q made2 root3) (sym step) (subst (λ (n : ℕ). IsShown s q made2 root3 (traversal_requested s q n (and_posts_frame now 1 (animation_id g) b))) same (requests text (and_posts_frame now 1 (animation_id g) b) posted))
+    let placed : IsShown lockstep s q made pass root1 b = subst (λ (t : Bool). IsShown lockstep s q made pass root1 (with_gauge g (record { value = v.value; target = target; animating = t }) a)) (starts_so v.animating (v.value == target) starts) (gauge_put lockstep s q g v (with_target target v) made pass root root1 a put at refl h) in
+    let posted : IsShown lockstep s q made1 pass1 root2 (and_posts_frame now 1 (animation_id g) b) = subst (λ (n : ℕ). IsShown lockstep s q made1 pass1 root2 (and_posts_frame now 1 n b)) (few g (length s.gauges) id is.within text.gauges is_id) (posts text b placed) in
+    subst (IsShown lockstep s q made2 pass2 root3) (sym step) (requests text (and_posts_frame now 1 (animation_id g) b) posted)
 
 -- ---- an animation
 
-abbrev pub animated : Script → ℕ → ℕ → ℕ → LooperState → LooperState
-animated s q now g a = option_map_or (λ x. animation_ran s q now g x a) (slice_get a.gauges g) a
-
-animates : (s : Script) (q now g : ℕ) (v : ViewGauge) (made : List Entry) (root : ViewRoot) (a : LooperState) → slice_get root.gauges.items g ≡ Some v → IsShown s q made root a → animated s q now g a ≡ animation_ran s q now g (standing v) a
-animates s q now g v made root a at h =
+animates : (lockstep : Bool) (s : Script) (q now g : ℕ) (v : ViewGauge) (made : List Entry) (pass : Pass) (root : ViewRoot) (a : LooperState) → slice_get root.gauges.items g ≡ Some v → IsShown lockstep s q made pass root a → animated s q now g a ≡ animation_ran s q now g (standing v) a
+animates lockstep s q now g v made pass root a at h =
     ap (λ (o : Option GaugeState). option_map_or (λ x. animation_ran s q now g x a) o a) (gauge_of s q g (tokens_in made) v root a at h.stands).stands
 
 -- the gauge stands still
-pub animates_none : (s : Script) (q now g : ℕ) (v : ViewGauge) (made : List Entry) (root : ViewRoot) → slice_get root.gauges.items g ≡ Some v → v.animating ≡ false → StepsRoot s q (animated s q now g) made root made root
-animates_none s q now g v made root at still text a h =
-    let step : animated s q now g a ≡ a = animates s q now g v made root a at h ∙ ap (λ (b : Bool). if b then gauge_moved s q now g (standing v) a else a) still in
-    subst (IsShown s q made root) (sym step) h
+pub animates_none : (lockstep : Bool) (s : Script) (q now g : ℕ) (v : ViewGauge) (made : List Entry) (pass : Pass) (root : ViewRoot) → slice_get root.gauges.items g ≡ Some v → v.animating ≡ false → StepsRoot lockstep s q (animated s q now g) made pass root made pass root
+animates_none lockstep s q now g v made pass root at still text a h =
+    let step : animated s q now g a ≡ a = animates lockstep s q now g v made pass root a at h ∙ ap (λ (b : Bool). if b then gauge_moved s q now g (standing v) a else a) still in
+    subst (IsShown lockstep s q made pass root) (sym step) h
 
 -- the gauge with another value, as it is put
 abbrev pub with_move : ℕ → ViewGauge → ViewGauge
 with_move n v = record v { value = n; animating = not (n == v.target) }
 
 -- the state's step is that of the gauge, as it moves
-moves : (s : Script) (q now g n : ℕ) (v : ViewGauge) (made : List Entry) (root : ViewRoot) (a : LooperState) → slice_get root.gauges.items g ≡ Some v → v.animating ≡ true → n ≡ stepped_towards v.step v.target v.value → IsShown s q made root a
+moves : (lockstep : Bool) (s : Script) (q now g n : ℕ) (v : ViewGauge) (made : List Entry) (pass : Pass) (root : ViewRoot) (a : LooperState) → slice_get root.gauges.items g ≡ Some v → v.animating ≡ true → n ≡ stepped_towards v.step v.target v.value → IsShown lockstep s q made pass root a
     → animated s q now g a ≡ (if n == v.target then traversal_requested s q now (with_gauge g (record { value = n; target = v.target; animating = false }) a)
     else and_posts_frame now 1 (animation_id g) (traversal_requested s q now (with_gauge g (record { value = n; target = v.target; animating = v.animating }) a)))
-moves s q now g n v made root a at on to h =
+moves lockstep s q now g n v made pass root a at on to h =
     let is = gauge_of s q g (tokens_in made) v root a at h.stands in
     let value : stepped_towards (gauge_line s g).step v.target v.value ≡ n = ap (λ (k : ℕ). stepped_towards k v.target v.value) (sym is.step) ∙ sym to in
-    animates s q now g v made root a at h
+    animates lockstep s q now g v made pass root a at h
     ∙ (ap (λ (b : Bool). if b then gauge_moved s q now g (standing v) a else a) on
     ∙ ap (λ (k : ℕ). if k == v.target then traversal_requested s q now (with_gauge g (record { value = k; target = v.target; animating = false }) a)
     else and_posts_frame now 1 (animation_id g) (traversal_requested s q now (with_gauge g (record { value = k; target = v.target; animating = v.animating }) a))) value)
 
 -- the gauge comes to its target
-pub animates_last : (s : Script) (q now g n : ℕ) (v : ViewGauge) (made made' : List Entry) (root root1 root' : ViewRoot) → slice_get root.gauges.items g ≡ Some v → v.animating ≡ true → n ≡ stepped_towards v.step v.target v.value → n ≡ v.target
-    → IsPut g (with_move n v) root root1 → StepsRoot s q (traversal_requested s q now) made root1 made' root' → StepsRoot s q (animated s q now g) made root made' root'
-animates_last s q now g n v made made' root root1 root' at on to there put requests text a h =
+pub animates_last : (lockstep : Bool) (s : Script) (q now g n : ℕ) (v : ViewGauge) (made made' : List Entry) (pass pass' : Pass) (root root1 root' : ViewRoot) → slice_get root.gauges.items g ≡ Some v → v.animating ≡ true → n ≡ stepped_towards v.step v.target v.value → n ≡ v.target
+    → IsPut g (with_move n v) root root1 → StepsRoot lockstep s q (traversal_requested s q now) made pass root1 made' pass' root' → StepsRoot lockstep s q (animated s q now g) made pass root made' pass' root'
+animates_last lockstep s q now g n v made made' pass pass' root root1 root' at on to there put requests text a h =
     let b = with_gauge g (record { value = n; target = v.target; animating = false }) a in
     let is : (n == v.target) ≡ true = eq-eqb n v.target there in
     let step : animated s q now g a ≡ traversal_requested s q now b =
-    moves s q now g n v made root a at on to h
+    moves lockstep s q now g n v made pass root a at on to h
     ∙ ap (λ (t : Bool). if t then traversal_requested s q now b else and_posts_frame now 1 (animation_id g) (traversal_requested s q now (with_gauge g (record { value = n; target = v.target; animating = v.animating }) a))) is in
-    let placed : IsShown s q made root1 b = subst (λ (t : Bool). IsShown s q made root1 (with_gauge g (record { value = n; target = v.target; animating = not t }) a)) is (gauge_put s q g v (with_move n v) made root root1 a put at refl h) in
-    subst (IsShown s q made' root') (sym step) (requests text b placed)
+    let placed : IsShown lockstep s q made pass root1 b = subst (λ (t : Bool). IsShown lockstep s q made pass root1 (with_gauge g (record { value = n; target = v.target; animating = not t }) a)) is (gauge_put lockstep s q g v (with_move n v) made pass root root1 a put at refl h) in
+    subst (IsShown lockstep s q made' pass' root') (sym step) (requests text b placed)
 
 -- the gauge goes on
-pub animates_on : (s : Script) (q now now' g n id : ℕ) (v : ViewGauge) (made made1 made2 : List Entry) (root root1 root2 root3 : ViewRoot) → slice_get root.gauges.items g ≡ Some v → v.animating ≡ true → n ≡ stepped_towards v.step v.target v.value → n ≢ v.target
-    → IsPut g (with_move n v) root root1 → id ≡ capped g → now' ≡ now → StepsRoot s q (traversal_requested s q now) made root1 made1 root2 → StepsRoot s q (and_posts_frame now' 1 id) made1 root2 made2 root3
-    → StepsRoot s q (animated s q now g) made root made2 root3
-animates_on s q now now' g n id v made made1 made2 root root1 root2 root3 at on to far put is_id same requests posts text a h =
+pub animates_on : (lockstep : Bool) (s : Script) (q now g n id : ℕ) (v : ViewGauge) (made made1 made2 : List Entry) (pass pass1 pass2 : Pass) (root root1 root2 root3 : ViewRoot) → slice_get root.gauges.items g ≡ Some v → v.animating ≡ true → n ≡ stepped_towards v.step v.target v.value → n ≢ v.target
+    → IsPut g (with_move n v) root root1 → id ≡ capped g → StepsRoot lockstep s q (traversal_requested s q now) made pass root1 made1 pass1 root2 → StepsRoot lockstep s q (and_posts_frame now 1 id) made1 pass1 root2 made2 pass2 root3
+    → StepsRoot lockstep s q (animated s q now g) made pass root made2 pass2 root3
+animates_on lockstep s q now g n id v made made1 made2 pass pass1 pass2 root root1 root2 root3 at on to far put is_id requests posts text a h =
     let is = gauge_of s q g (tokens_in made) v root a at h.stands in
     let b = with_gauge g (record { value = n; target = v.target; animating = v.animating }) a in
     let isnt : (n == v.target) ≡ false = ne_eqb n v.target far in
     let step : animated s q now g a ≡ and_posts_frame now 1 (animation_id g) (traversal_requested s q now b) =
-    moves s q now g n v made root a at on to h
+    moves lockstep s q now g n v made pass root a at on to h
     ∙ ap (λ (t : Bool). if t then traversal_requested s q now (with_gauge g (record { value = n; target = v.target; animating = false }) a) else and_posts_frame now 1 (animation_id g) (traversal_requested s q now b)) isnt in
-    let placed : IsShown s q made root1 b = subst (λ (t : Bool). IsShown s q made root1 (with_gauge g (record { value = n; target = v.target; animating = t }) a)) (ap not isnt ∙ sym on) (gauge_put s q g v (with_move n v) made root root1 a put at refl h) in
-    subst (IsShown s q made2 root3) (sym step)
-    (subst (λ (k : ℕ). IsShown s q made2 root3 (and_posts_frame now 1 k (traversal_requested s q now b))) (few g (length s.gauges) id is.within text.gauges is_id) (subst (λ (k : ℕ). IsShown s q made2 root3 (and_posts_frame k 1 id (traversal_requested s q now b))) same (posts text (traversal_requested s q now b) (requests text b placed))))
+    let placed : IsShown lockstep s q made pass root1 b = subst (λ (t : Bool). IsShown lockstep s q made pass root1 (with_gauge g (record { value = n; target = v.target; animating = t }) a)) (ap not isnt ∙ sym on) (gauge_put lockstep s q g v (with_move n v) made pass root root1 a put at refl h) in
+    subst (IsShown lockstep s q made2 pass2 root3) (sym step)
+    (subst (λ (k : ℕ). IsShown lockstep s q made2 pass2 root3 (and_posts_frame now 1 k (traversal_requested s q now b))) (few g (length s.gauges) id is.within text.gauges is_id) (posts text (traversal_requested s q now b) (requests text b placed)))
 
 -- ---- a callback
 
 -- the callback of a traversal
-pub runs_traversal : (s : Script) (q now id : ℕ) (made made' : List Entry) (root root' : ViewRoot) → id ≡ 1000016 → StepsRoot s q (traversal_ran s q now) made root made' root' → StepsRoot s q (λ a. callback_ran s q now a id) made root made' root'
-runs_traversal s q now id made made' root root' is shows text a h =
-    subst (λ (b : Bool). IsShown s q made' root' (if b then traversal_ran s q now a else if nat_le 1000000 id then animated s q now (id - 1000000) a else a)) (sym (eq-eqb id 1000016 is)) (shows text a h)
+pub runs_traversal : (lockstep : Bool) (s : Script) (q now id : ℕ) (made made' : List Entry) (pass pass' : Pass) (root root' : ViewRoot) → id ≡ 1000016 → StepsRoot lockstep s q (traversal_ran s q now) made pass root made' pass' root' → StepsRoot lockstep s q (λ a. callback_ran s q now a id) made pass root made' pass' root'
+runs_traversal lockstep s q now id made made' pass pass' root root' is shows text a h =
+    subst (λ (b : Bool). IsShown lockstep s q made' pass' root' (if b then traversal_ran s q now a else if nat_le 1000000 id then animated s q now (id - 1000000) a else a)) (sym (eq-eqb id 1000016 is)) (shows text a h)
 
 -- the callback of a gauge
-pub runs_animation : (s : Script) (q now id : ℕ) (made made' : List Entry) (root root' : ViewRoot) → id ≢ 1000016 → 1000000 ≤ id → StepsRoot s q (animated s q now (id - 1000000)) made root made' root' → StepsRoot s q (λ a. callback_ran s q now a id) made root made' root'
-runs_animation s q now id made made' root root' isnt least shows text a h =
-    subst (λ (b : Bool). IsShown s q made' root' (if b then traversal_ran s q now a else if nat_le 1000000 id then animated s q now (id - 1000000) a else a)) (sym (ne_eqb id 1000016 isnt))
-    (subst (λ (b : Bool). IsShown s q made' root' (if b then animated s q now (id - 1000000) a else a)) (sym (le-leb 1000000 id least)) (shows text a h))
+pub runs_animation : (lockstep : Bool) (s : Script) (q now id : ℕ) (made made' : List Entry) (pass pass' : Pass) (root root' : ViewRoot) → id ≢ 1000016 → 1000000 ≤ id → StepsRoot lockstep s q (animated s q now (id - 1000000)) made pass root made' pass' root' → StepsRoot lockstep s q (λ a. callback_ran s q now a id) made pass root made' pass' root'
+runs_animation lockstep s q now id made made' pass pass' root root' isnt least shows text a h =
+    subst (λ (b : Bool). IsShown lockstep s q made' pass' root' (if b then traversal_ran s q now a else if nat_le 1000000 id then animated s q now (id - 1000000) a else a)) (sym (ne_eqb id 1000016 isnt))
+    (subst (λ (b : Bool). IsShown lockstep s q made' pass' root' (if b then animated s q now (id - 1000000) a else a)) (sym (le-leb 1000000 id least)) (shows text a h))
 
 -- a gauge of a line, before it moves
 abbrev pub unmoved : Script → ℕ → GaugeLine → ViewGauge
@@ -357,17 +354,15 @@ barrier_of : (tokens : List ℕ) (o : Option ℕ) (token : ℕ) → IsBarrierOf 
 barrier_of tokens None token h = absurd h
 barrier_of tokens (Some k) token h = (k, refl, h)
 
--- what the painting left
-pub record HasPainted (root root' : ViewRoot) : Type 0 where
+-- the painting left all but what is painted, and no barrier
+pub record IsPainted (root root' : ViewRoot) : Type 0 where
   pub gauges : root'.gauges ≡ root.gauges
   pub barrier : root'.barrier ≡ None
-  pub pass : root'.pass ≡ root.pass
   pub edition : root'.edition ≡ root.edition
 
-pub traverses : (s : Script) (q now : ℕ) (p p' : Sender) (token : ℕ) (root root' : ViewRoot) → root.barrier ≡ Some token → Makes p p' (Unbarrier token) [] → HasPainted root root'
-    → (HasText s → map gauge_fixed root.gauges.items ≡ map (fixed_by s q) s.gauges → map paint_of root'.painted.items ≡ map paint_of root.painted.items ++ paints s q (map standing root.gauges.items))
-    → StepsRoot s q (traversal_ran s q now) (calls_of p) root (calls_of p') root'
-traverses s q now p p' token root root' has m left told text a h =
+pub traverses : (lockstep : Bool) (s : Script) (q now : ℕ) (p p' : Sender) (token : ℕ) (pass : Pass) (root root' : ViewRoot) → root.barrier ≡ Some token → Makes p p' (Unbarrier token) [] → IsPainted root root'
+    → (HasText s → HasGauges s q root → HasPainted s q root root') → StepsRoot lockstep s q (traversal_ran s q now) (calls_of p) pass root (calls_of p') pass root'
+traverses lockstep s q now p p' token pass root root' has m left told text a h =
     let made = calls_of p in
     let before = tokens_in made in
     let under = barrier_of before a.barrier token (subst (IsBarrierOf before a.barrier) has h.stands.barrier) in
@@ -378,10 +373,9 @@ traverses s q now p p' token root root' has m left told text a h =
     let made_is : calls_of p' ≡ made ++ m.entry ∷ [] = calls_more p p' (Unbarrier token) [] refl m in
     let step : traversal_ran s q now a ≡ and_sends q now (Unbars k) b = ap (λ (o : Option ℕ). option_map_or (λ j. and_sends q now (Unbars j) b) o a) under.1 in
     let painted : map paint_of root'.painted.items ≡ a.painted ++ paints s q a.gauges = told text h.stands.lines ∙ (λ i. h.stands.painted i ++ paints s q (h.stands.gauges i)) in
-    let shown : IsShown s q (made ++ m.entry ∷ []) root' (and_sends q now (Unbars k) b) = record {
+    let shown : IsShown lockstep s q (made ++ m.entry ∷ []) pass root' (and_sends q now (Unbars k) b) = record {
       calls = sent_more q now (Unbars k) b made m.entry h.calls call;
-      asked = ap pass_asks left.pass ∙ h.asked;
-      turns = ap (λ (f : Pass). f.view.turns) left.pass ∙ h.turns;
+      asked = h.asked;
       stands = record {
         edition = left.edition ∙ h.stands.edition;
         gauges = ap (λ (x : Vec ViewGauge Global). map standing x.items) left.gauges ∙ h.stands.gauges;
@@ -391,4 +385,4 @@ traverses s q now p p' token root root' has m left told text a h =
         painted = painted;
       };
     } in
-    subst (λ (l : List Entry). IsShown s q l root' (traversal_ran s q now a)) (sym made_is) (subst (IsShown s q (made ++ m.entry ∷ []) root') (sym step) shown)
+    subst (λ (l : List Entry). IsShown lockstep s q l pass root' (traversal_ran s q now a)) (sym made_is) (subst (IsShown lockstep s q (made ++ m.entry ∷ []) pass root') (sym step) shown)

@@ -18,7 +18,7 @@ use Rattle.run_model.specs.FrameRecords.{is_begin}
 use Rattle.run_model.specs.Parts.{past_before_frame}
 use Rattle.run_model.proofs.FrameKeeping.{before_first-step}
 
-quiet_none : (es : List FrameEntry) → IsQuiet es → list_any is_begin es ≡ false
+pub quiet_none : (es : List FrameEntry) → IsQuiet es → list_any is_begin es ≡ false
 quiet_none [] q = refl
 quiet_none (Posted c ∷ es) q = quiet_none es q
 quiet_none (Removed p i t n ∷ es) q = quiet_none es q

@@ -1,18 +1,17 @@
 -- The moments of a looper's calls, where a clock is read.
-use Rattle.std.specs.Prelude.{◌≡◌, ◌<◌, ◌==◌, ◌&&◌, ℕ, Bool, true, false, not, List, ◌++◌, map, length, slice_index_or, is_some}
+use Rattle.std.specs.Prelude.{◌≡◌, ◌<◌, ◌==◌, ◌&&◌, ℕ, Bool, true, false, not, List, ◌++◌, map, length, slice_index_or}
 use Rattle.loop_model.specs.declared.post.Post.{Post as PostData}
 use Rattle.loop_model.specs.declared.entry.Entry.{Entry}
 use Rattle.loop_model.specs.declared.journal.Act.{Act}
 use Rattle.loop_model.specs.Entries.{is_next}
 use Rattle.dash_script.specs.declared.script.Script.{Script}
 use Rattle.looper_run.specs.Holding.{Sender, Workplace}
-use Rattle.run_model.specs.Planned.{frame_handler}
 use Rattle.run_model.specs.Moments.{Mode, AreOfClockAfter}
 use Rattle.dash_hall.specs.ByClock.{IsByClock, AddsByClock, AddsAt}
 use Rattle.dash_hall.specs.declared.hall.Hall.{Hall}
 use Rattle.dash_loopers.specs.declared.player.Parts.{Parts}
 use Rattle.dash_loopers.specs.declared.looper.StageLooper.{StageLooper}
-use Rattle.dash_loopers.specs.Loopers.{is_given_up, others_in, posters_of}
+use Rattle.dash_loopers.specs.Loopers.{is_given_up, others_in, posters_of, goes_to_rules}
 use Rattle.dash_loopers.specs.Players.{Owner, ServesAt}
 use Rattle.dash_loopers.specs.Played.{IsPlayingBy}
 
@@ -31,10 +30,6 @@ pub record AreUntimed (before after : List Sender) : Type 0 where
 pub record CallsUntimed (before after : Sender) (parts parts' : Parts) : Type 0 where
   pub own : AddsUntimed before after
   pub others : AreUntimed parts.others.items parts'.others.items
-
--- the message goes to the rules: it is none of the choreographer, and has no object
-abbrev pub goes_to_rules : ℕ → PostData → Bool
-goes_to_rules q m = not (m.handler == frame_handler q) && not (is_some m.obj)
 
 -- a message was delivered at this moment: what the rules called has no moment, or the queue's time, and what else was called has this one, or the queue's time
 pub record DeliversAt (q u : ℕ) (m : PostData) (before after : Sender) (parts parts' : Parts) : Type 0 where

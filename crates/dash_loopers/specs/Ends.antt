@@ -9,8 +9,8 @@ use Rattle.dash_hall.specs.declared.kit.Kit.{Kit}
 use Rattle.dash_hall.specs.Hearing.{HasHeardAll}
 use Rattle.dash_hall.specs.Kits.{IsKitOf, HasSeenOver}
 use Rattle.dash_loopers.specs.declared.looper.StageLooper.{StageLooper}
-use Rattle.dash_loopers.specs.Loopers.{IsLooper, posters_of, WaitsForNothing, HasDoneNothing, OfItsPasses, HasTold, HasDisposedLast, is_given_up}
-use Rattle.dash_loopers.specs.Played.{StandsBetweenRounds, HasLeft, StandsBetweenLoops, HasLeftBy}
+use Rattle.dash_loopers.specs.Loopers.{IsLooper, posters_of, WaitsForNothing, HasDoneNothing, OfItsPass, HasTold, HasDisposedLast, is_given_up}
+use Rattle.dash_loopers.specs.Played.{StandsBetweenRounds, StandsBetweenLoops, HasLeft}
 
 -- the looper of this number, made of this kit, which has done nothing and heard of nothing
 pub record IsNewLooper (s : Script) (hall : Hall) (number : ℕ) (kit : Kit) (l : StageLooper) : Type 0 where
@@ -20,7 +20,7 @@ pub record IsNewLooper (s : Script) (hall : Hall) (number : ℕ) (kit : Kit) (l 
   pub waits : WaitsForNothing l.last
   pub begun : StandsBetweenRounds s l (first_looper s)
   pub nothing : HasDoneNothing kit l
-  pub unheard : OfItsPasses (HasHeardAll []) l
+  pub unheard : OfItsPass (HasHeardAll []) l
 
 -- the journal is the looper's, and the kit is that of its sender, with its posters and its pass of the pool
 pub record HandsOutKit (s : Script) (hall : Hall) (l : StageLooper) (j : Journal) (kit : Kit) : Type 0 where
@@ -36,5 +36,5 @@ pub record IsToldBy (s : Script) (l : StageLooper) (j : Journal) (kit : Kit) : T
   pub told : is_given_up l.last ≡ false → HasTold s l.number j kit
   pub disposes : is_given_up l.last ≡ false → HasDisposedLast s l.number kit
   pub over : is_ended l.last ≡ true → HasSeenOver s l.number kit
-  pub left : (a : LooperState) → StandsBetweenRounds s l a → HasLeft s l.number j kit a
-  pub left_by : (did a : LooperState) → StandsBetweenLoops s l did a → HasLeftBy s l.number j kit a
+  pub left : (a : LooperState) → StandsBetweenRounds s l a → HasLeft true s l.number j kit a
+  pub left_by : (a : LooperState) → StandsBetweenLoops s l a → HasLeft false s l.number j kit a

@@ -8,4 +8,5 @@ pub mod Clocked
 pub mod ClockedLaws
 pub mod Looped
 pub mod Steps
+pub mod FrameParts
 pub mod Ends

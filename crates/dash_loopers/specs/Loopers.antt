@@ -1,6 +1,6 @@
 -- A looper of a script.
 use Rattle.std.specs.Prelude.{◌≡◌, List, length, ◌<◌, ◌+◌, ◌==◌, ◌||◌, ◌&&◌, ◌⊎◌, ◌++◌, ◌∷◌, not, filter, ℕ, Bool, true, false, map, slice_get}
-use Rattle.std.specs.Prelude.{Option, Some, None, IsSomeAnd, slice_index_or, ◌≤◌, max, []}
+use Rattle.std.specs.Prelude.{Option, Some, None, IsSomeAnd, is_some, slice_index_or, ◌≤◌, max, []}
 use Rattle.std.specs.List.{remove, insert}
 use Rattle.atomic_table.specs.Seated.{TableId}
 use Rattle.dash_script.specs.declared.script.Script.{Script}
@@ -8,6 +8,7 @@ use Rattle.loop_model.specs.declared.base.Base.{Base}
 use Rattle.loop_model.specs.Base.{empty_base}
 use Rattle.loop_model.specs.Answers.{Setting, clock, is_over, quit_place}
 use Rattle.loop_model.specs.Legal.{IsLegal, AreNumbered}
+use Rattle.loop_model.specs.declared.post.Post.{Post as PostData}
 use Rattle.loop_model.specs.declared.entry.Entry.{Entry}
 use Rattle.loop_model.specs.Entries.{is_next, is_disposed}
 use Rattle.shared_queue.specs.Known.{Shared}
@@ -19,7 +20,7 @@ use Rattle.looper_run.specs.Acts.{taken_messages}
 use Rattle.loop_model.specs.Dispatches.{dispatches}
 use Rattle.loop_model.specs.declared.journal.Journal.{Journal}
 use Rattle.dash_hall.specs.declared.kit.Kit.{Kit}
-use Rattle.run_model.specs.Planned.{sender_count, entries_by}
+use Rattle.run_model.specs.Planned.{sender_count, entries_by, frame_handler}
 use Rattle.looper_run.specs.declared.looper.Round.{Round}
 use Rattle.looper_run.specs.declared.looper.Round.TheVariants as round
 use Rattle.looper_run.specs.declared.by_clock.Loop.{Loop}
@@ -41,11 +42,10 @@ use Rattle.loop_model.specs.Pick.{first_eligible, pick}
 abbrev pub MayAwait : Parts → Type 0
 MayAwait parts = parts.awaits ≡ true → IfAlone parts.frames (parts.frames.view.awaits ≡ 1)
 
--- what a looper has beside its own poster: the posters of the other queues in order, and two passes of its choreographer
+-- what a looper has beside its own poster: the posters of the other queues in order, and its pass of its choreographer
 pub record ArePartsOf (s : Script) (hall : Hall) (number : ℕ) (parts : Parts) : Type 0 where
   pub others : map badge_of parts.others.items ≡ remove (map (badge_for (s.threads + number)) hall.queues.items) number
   pub frames : (c : SharedFrames) → slice_get hall.choreographers.items number ≡ Some c → frame_badge_of parts.frames ≡ frame_badge_for s.threads c
-  pub client : (c : SharedFrames) → slice_get hall.choreographers.items number ≡ Some c → frame_badge_of parts.root.pass ≡ frame_badge_for (s.threads + 1) c
   pub awaits : MayAwait parts
 
 -- the workplace is the queue of this looper, and the pool of the hall
@@ -101,6 +101,10 @@ abbrev pub DisposesAtEnd : Round → List Entry → Type 0
 DisposesAtEnd (round.Drained dispatched until) es = calls_among es ≡ es
 DisposesAtEnd (round.Ended dispatched) es = DisposesLast es
 DisposesAtEnd round.NoMemory es = Unit {0}
+
+-- the message goes to the rules: it is none of the choreographer, and has no object
+abbrev pub goes_to_rules : ℕ → PostData → Bool
+goes_to_rules q m = not (m.handler == frame_handler q) && not (is_some m.obj)
 
 -- a looper of the script, with what it needs in the hall
 pub record IsLooper (s : Script) (hall : Hall) (l : StageLooper) : Type 0 where
@@ -175,11 +179,10 @@ abbrev pub rest_in : Option Parts → Option LooperRest
 rest_in None = None
 rest_in (Some parts) = Some (record { frames = parts.frames; root = parts.root; fired = parts.fired.items; passed = parts.passed; awaits = parts.awaits })
 
--- the two passes heard others, or are as before, and the rest is as before
+-- the pass heard others, or is as before, and the rest is as before
 pub record RestHasHeard (before after : LooperRest) : Type 0 where
   pub frames : PassHasHeard before.frames after.frames
-  pub client : PassHasHeard before.root.pass after.root.pass
-  pub root : after.root ≡ record before.root { pass = after.root.pass }
+  pub root : after.root ≡ before.root
   pub fired : after.fired ≡ before.fired
   pub passed : after.passed ≡ before.passed
   pub awaits : after.awaits ≡ before.awaits
@@ -188,7 +191,7 @@ pub record RestHasHeard (before after : LooperRest) : Type 0 where
 abbrev pub MayHaveHeard : Option LooperRest → Option LooperRest → Type 0
 MayHaveHeard before after = (r : LooperRest) → before ≡ Some r → (r' : LooperRest) × (after ≡ Some r') × RestHasHeard r r'
 
--- a looper's posters before and after are so, its passes of its choreographer are as before or heard others, and all else of it is as before
+-- a looper's posters before and after are so, its pass of its choreographer is as before or heard others, and all else of it is as before
 pub record LooperKeeps (R : List Sender → List Sender → Type 0) (before after : StageLooper) : Type 0 where
   pub number : after.number ≡ before.number
   pub sender : after.sender ≡ before.sender
@@ -198,17 +201,17 @@ pub record LooperKeeps (R : List Sender → List Sender → Type 0) (before afte
   pub last : after.last ≡ before.last
   pub dispatched : after.dispatched ≡ before.dispatched
 
--- this holds of the looper's two passes of its choreographer
-abbrev pub OfItsPasses : (Pass → Type 0) → StageLooper → Type 0
-OfItsPasses P l = (r : LooperRest) → rest_in l.parts ≡ Some r → P r.frames × P r.root.pass
+-- this holds of the looper's pass of its choreographer
+abbrev pub OfItsPass : (Pass → Type 0) → StageLooper → Type 0
+OfItsPass P l = (r : LooperRest) → rest_in l.parts ≡ Some r → P r.frames
 
--- the looper let another pass hear: its own are as they were
-abbrev pub TellsPasses : StageLooper → StageLooper → Type 0
-TellsPasses before after = LooperKeeps AreKept before after × (rest_in after.parts ≡ rest_in before.parts)
+-- the looper let another pass hear: its own is as it was
+abbrev pub LooperTellsPass : StageLooper → StageLooper → Type 0
+LooperTellsPass before after = LooperKeeps AreKept before after × (rest_in after.parts ≡ rest_in before.parts)
 
--- the looper's two passes have heard this, and all else is as before
-abbrev pub HearsPasses : List (ℕ × FrameEntry) → StageLooper → StageLooper → Type 0
-HearsPasses whole before after = LooperKeeps AreKept before after × OfItsPasses (HasHeardAll whole) after
+-- the looper's pass has heard this, and all else is as before
+abbrev pub LooperHearsPass : List (ℕ × FrameEntry) → StageLooper → StageLooper → Type 0
+LooperHearsPass whole before after = LooperKeeps AreKept before after × OfItsPass (HasHeardAll whole) after
 
 -- the looper's number is that of one of its posters
 abbrev pub IsWithin : StageLooper → Type 0

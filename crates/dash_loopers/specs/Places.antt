@@ -1,5 +1,5 @@
 -- What a looper's code serves, and what its steps do, by the place where it runs.
-use Rattle.std.specs.Prelude.{◌≡◌, ◌==◌, ◌++◌, ℕ, Bool, Option, List, map, fold, slice_get}
+use Rattle.std.specs.Prelude.{◌≡◌, ◌==◌, ◌++◌, ℕ, Bool, Option, List, map, slice_get}
 use Rattle.std.specs.Option.{option_map_or}
 use Rattle.loop_model.specs.declared.post.Post.{Post as PostData}
 use Rattle.looper_run.specs.Holding.{KeptOwn as Own}
@@ -8,22 +8,18 @@ use Rattle.choreographer.specs.declared.hosted.Pulse.{Pulse}
 use Rattle.choreographer.specs.Known.{SharedFrames, Pass}
 use Rattle.choreographer.specs.Calls.{PulsedBy, DueBy}
 use Rattle.run_model.specs.FrameRecords.{nanos_of}
-use Rattle.run_model.specs.Loopers.{LooperState, callback_ran, paints}
+use Rattle.run_model.specs.Loopers.{LooperState, frame_ran, paints}
 use Rattle.run_model.specs.Parts.{animation_ran}
 use Rattle.run_model.specs.Planned.{frame_handler}
 use Rattle.dash_hall.specs.declared.host.Host.{Host}
 use Rattle.dash_hall.specs.Hosts.{sends_by}
 use Rattle.dash_script.specs.declared.script.Script.{Script}
-use Rattle.dash_loopers.specs.declared.frame_run.FrameRun.{FrameRun}
 use Rattle.dash_loopers.specs.declared.player.Parts.{Parts}
 use Rattle.dash_loopers.specs.declared.player.Place.{Place}
 use Rattle.dash_loopers.specs.declared.view_root.ViewRoot.{ViewRoot}
 use Rattle.dash_loopers.specs.Players.{ServesAt}
-use Rattle.dash_loopers.specs.Played.{calls_of, ids_of, standing, gauge_fixed, fixed_by, paint_of, RanFrame, EndsLatest, StepsRoot, Plays, Delivers}
-use Rattle.dash_loopers.specs.Played.{DeliversPulse}
-use Rattle.dash_loopers.specs.Played.{Pulses}
-use Rattle.choreographer.specs.declared.frame.Framed.{Framed}
-use Rattle.choreographer.specs.declared.frame.Framed.TheVariants as framed
+use Rattle.dash_loopers.specs.Played.{calls_of, standing, gauge_fixed, fixed_by, paint_of, MayTell, MayTellAll, RanFrame, EndsLatest, StepsRoot, Plays, PlaysAt}
+use Rattle.dash_loopers.specs.Played.{Delivers, DeliversPulse, Pulses}
 
 -- the code works at the queue of the place's looper, with what it is lent, and these are the looper's parts
 abbrev pub ServesOn : {R : Type 0} → Place R → Parts → Own → Type 0
@@ -33,7 +29,12 @@ ServesOn place parts own = ServesAt place.script.now place.hall.now place.looper
 abbrev pub PlayStep : {R : Type 0} → Place R → (LooperState → LooperState) → Own → Own → Parts → Parts → Type 0
 PlayStep place step own own' parts parts' = Plays place.script.now place.looper step (calls_of own.poster.now) parts (calls_of own'.poster.now) parts'
 
--- a message was delivered at this moment, and a frame that it began read an uptime whose answers pass this test
+-- a step of all that the place's looper has at this moment, told at each time that a run may tell of it
+abbrev pub PlayStepAt : {R : Type 0} → Place R → ℕ → (ℕ → LooperState → LooperState) → Own → Own → Parts → Parts → Type 0
+PlayStepAt place now step own own' parts parts' =
+    PlaysAt place.script.now place.looper now step (calls_of own.poster.now) parts (calls_of own'.poster.now) parts'
+
+-- a message was delivered at this moment; where all answers that pass the test are of one time, a frame that it began is told at it
 abbrev pub DeliversOn : {R : Type 0} → Place R → ℕ → (ℕ → Bool) → PostData → Own → Own → Parts → Parts → Type 0
 DeliversOn place now is_moment m own own' parts parts' =
     Delivers place.script.now place.looper now is_moment m (calls_of own.poster.now) (calls_of own'.poster.now) parts parts'
@@ -59,16 +60,24 @@ abbrev pub PulsesOn : {R : Type 0} → Place R → ℕ → Own → Own → Parts
 PulsesOn place now own own' parts parts' =
     Pulses place.script.now place.looper now (calls_of own.poster.now) (calls_of own'.poster.now) parts parts' own.journal.now.acts own'.journal.now.acts
 
--- a step of the view root, by what its host has called
-abbrev pub ShowsOn : {R U : Type 0} → Host R U → Host R U → Script → ℕ → (LooperState → LooperState) → ViewRoot → ViewRoot → Type 0
-ShowsOn host host' s q step root root' = StepsRoot s q step (calls_of host.poster.now) root (calls_of host'.poster.now) root'
+-- a step of the view root, by what its host has called, told at each time that a run may tell of the host's moment
+abbrev pub ShowsOn : {R U : Type 0} → Host R U → Host R U → (Script → ℕ → ℕ → LooperState → LooperState) → Pass → Pass → ViewRoot → ViewRoot → Type 0
+ShowsOn host host' step pass pass' root root' = (lockstep : Bool) (s : Script) (q at : ℕ) → MayTell lockstep host.now at
+    → StepsRoot lockstep s q (step s q at) (calls_of host.poster.now) pass root (calls_of host'.poster.now) pass' root'
 
--- the frame of the latest pulse began, where it wouldn't have gone back, its callbacks ran, and the view root's calls tell which
+-- the same of a step of a frame, whose moments pass the test
+abbrev pub ShowsFrameOn : {R U : Type 0} → (ℕ → Bool) → Host R U → Host R U → (Script → ℕ → ℕ → LooperState → LooperState)
+    → Pass → Pass → ViewRoot → ViewRoot → Type 0
+ShowsFrameOn is_moment host host' step pass pass' root root' =
+    (lockstep : Bool) (s : Script) (q at : ℕ) → MayTell lockstep host.now at → MayTellAll lockstep is_moment at
+    → StepsRoot lockstep s q (step s q at) (calls_of host.poster.now) pass root (calls_of host'.poster.now) pass' root'
+
+-- the frame of the latest pulse began, where it wouldn't have gone back, each phase ran callbacks of these identities, and the view root shows it
 abbrev pub RootRuns : {R U : Type 0} → SharedFrames → (ℕ → Bool) → Pass → Pass → Host R U → Host R U → ViewRoot → ViewRoot → Type 0
-RootRuns c is_moment pass pass' host host' root root' = (ids : List ℕ)
+RootRuns c is_moment pass pass' host host' root root' = (ids : Option (List (List ℕ)))
     × RanFrame c.constants.interval c.constants.phases is_moment pass pass' ids
     × EndsLatest pass pass'
-    × ((s : Script) (q : ℕ) → ShowsOn host host' s q (λ a. fold (callback_ran s q host.now) a ids) root root')
+    × ShowsFrameOn is_moment host host' (λ s q at. frame_ran s q at ids) pass pass' root root'
 
 -- the animation of this gauge ran at this moment, where there is one of this number
 abbrev pub animated : Script → ℕ → ℕ → ℕ → LooperState → LooperState
@@ -81,17 +90,3 @@ HasGauges s q root = map gauge_fixed root.gauges.items ≡ map (fixed_by s q) s.
 -- it has painted its gauges too, as they stand
 abbrev pub HasPainted : Script → ℕ → ViewRoot → ViewRoot → Type 0
 HasPainted s q root root' = map paint_of root'.painted.items ≡ map paint_of root.painted.items ++ paints s q (map standing root.gauges.items)
-
--- the view root of a frame that is under way has run the callbacks that are told, by what its host has called
-abbrev pub FrameShows : {R U : Type 0} → FrameRun → Host R U → Type 0
-FrameShows run host = (s : Script) (q : ℕ)
-    → StepsRoot s q (λ a. fold (callback_ran s q host.now) a (ids_of run.ran.now.items))
-    (calls_of run.poster_began.now.value) run.began.now.value (calls_of host.poster.now) run.root.now
-
--- the frame was run, or would have gone back, or none was scheduled: so none is to begin any more
-abbrev pub HasEndedWait : Framed → Type 0
-HasEndedWait framed.Done = Unit {0}
-HasEndedWait (framed.Elsewhere next) = ⊥
-HasEndedWait framed.Unscheduled = Unit {0}
-HasEndedWait (framed.Backwards last) = Unit {0}
-HasEndedWait framed.NoMemory = ⊥

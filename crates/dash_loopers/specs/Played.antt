@@ -1,10 +1,10 @@
--- What a looper has come to, told by what it works with: the calls and the frame callbacks that its acts cause are made, and
+-- What a looper has come to, told by what it works with: the calls and the asks of its choreographer that its acts cause are made, and
 -- its gauges, its barrier and its rule counts stand as its acts lead to.
 use Rattle.std.specs.Prelude.{◌≡◌, ◌≢◌, ◌<◌, ◌≤◌, ◌==◌, ◌||◌, ◌&&◌, ℕ, Bool, true, false, not, cond, All, List, [], ◌∷◌, ◌++◌, map, length, slice_get}
 use Rattle.std.specs.Prelude.{slice_set, drop}
-use Rattle.std.specs.Prelude.{slice_index_or, Option, Some, None, is_some, is_none, IsSomeAnd, if◌then◌else◌, ◌+◌, ◌/◌}
-use Rattle.std.specs.List.{Contains, filter_map, list_all, list_any}
-use Rattle.std.specs.Option.{option_map_or}
+use Rattle.std.specs.Prelude.{slice_index_or, Option, Some, None, is_some, IsSomeAnd, if◌then◌else◌, ◌+◌, ◌/◌}
+use Rattle.std.specs.List.{Contains, filter_map, list_any}
+use Rattle.std.specs.Option.{option_map, option_map_or}
 use mathlib.Core.List.{IsPrefix}
 use Rattle.loop_model.specs.declared.post.Post.{Post as PostData}
 use Rattle.loop_model.specs.declared.call.Call.{Call}
@@ -30,16 +30,14 @@ use Rattle.choreographer.specs.Turn.{has_later}
 use Rattle.choreographer.specs.Calls.{latest_stamp, WasWanted}
 use Rattle.choreographer.specs.declared.host.HostSent.TheVariants as host
 use Rattle.choreographer.specs.declared.hosted.Pulse.{Pulse}
-use Rattle.choreographer.specs.Client.{Run}
 use Rattle.run_model.specs.Planned.{Makes, AreFor, entries_by, looper_of, frame_message, frame_due, sender_count}
 use Rattle.run_model.specs.AskedSoFar.{tokens_in}
 use Rattle.run_model.specs.Control.{Timing, At, InBlock, Exactly, AnyTime}
 use Rattle.run_model.specs.Loopers.{LooperState, SentCall, first_looper, starts_frame, after_dispatch, fires, reaction, ActsLead, IsSent, pulse_stamp}
 use Rattle.run_model.specs.Loopers.{has_frames, pulses_come_first, GaugeState}
-use Rattle.run_model.specs.Parts.{sent_on, asks_to_run}
-use Rattle.run_model.specs.FrameRecords.{millis_up, FrameAt, is_begin, frame_ids, is_frame_from, has_stamp, frame_moments, place_after, are_run_then, are_whole}
-use Rattle.run_model.specs.FrameRecords.{FrameAsk, Posts, Removes, Runs, as_told}
-use Rattle.run_model.specs.FrameRecords.{nanos_of}
+use Rattle.run_model.specs.Parts.{sent_on}
+use Rattle.run_model.specs.FrameRecords.{millis_up, nanos_of, is_begin, frame_ids, is_frame_from, has_stamp, place_after}
+use Rattle.run_model.specs.FrameRecords.{FrameAsk, Posts, Removes, Begins, Takes, as_told}
 use Rattle.dash_hall.specs.declared.kit.Kit.{Kit}
 use Rattle.dash_loopers.specs.declared.view_root.Gauge.{Gauge as ViewGauge}
 use Rattle.dash_loopers.specs.declared.view_root.Painted.{Painted}
@@ -50,7 +48,7 @@ use Rattle.dash_hall.specs.Growth.{own}
 use Rattle.dash_hall.specs.Hosts.{pass_asks}
 use Rattle.dash_loopers.specs.Players.{PlaceWithout}
 use Rattle.dash_loopers.specs.PulsesFirst.{TellsPulsesFirst}
-use Rattle.dash_loopers.specs.Loopers.{is_given_up, calls_among, IsSoundOn}
+use Rattle.dash_loopers.specs.Loopers.{is_given_up, calls_among, IsSoundOn, goes_to_rules}
 pub use Rattle.dash_loopers.specs.Loopers.{is_disposal}
 
 -- ---- how a view root stands
@@ -100,12 +98,14 @@ calls_in sender es = calls_among (entries_by sender es)
 abbrev pub calls_of : Sender → List Entry
 calls_of p = calls_in p.sender p.view.seen
 
--- the looper made these entries on its own queue, its view root's pass asked for the frame callbacks that the state posts, in order and for nothing else, by
--- one turn for each and no other, and its view root stands as the state says
-pub record IsShown (s : Script) (q : ℕ) (made : List Entry) (root : ViewRoot) (a : LooperState) : Type 0 where
+-- the pass asked for just these, in order, as it is told in the mode: in free mode when each was to be is left open
+abbrev pub PassHasAsked : Bool → Pass → List FrameAsk → Type 0
+PassHasAsked lockstep p asks = map (as_told lockstep) (pass_asks p) ≡ map (as_told lockstep) asks
+
+-- the looper made these entries on its own queue, its pass of its choreographer asked for what the state asks, and its view root stands as the state says
+pub record IsShown (lockstep : Bool) (s : Script) (q : ℕ) (made : List Entry) (pass : Pass) (root : ViewRoot) (a : LooperState) : Type 0 where
   pub calls : AreFor IsSent [] (sent_on q a.sent) made
-  pub asked : pass_asks root.pass ≡ a.posted
-  pub turns : root.pass.view.turns ≡ length a.posted
+  pub asked : PassHasAsked lockstep pass a.asked
   pub stands : IsRootOf s q (tokens_in made) a root
 
 -- on each other queue the calls that the state tells were made; the posters of the others stand in order
@@ -114,19 +114,41 @@ AreMadeElsewhere q others a =
     (k j : ℕ) (d : Sender) → PlaceWithout q k j → j < length others → AreFor IsSent [] (sent_on k a.sent) (own (slice_index_or others j d))
 
 -- all that the state says is so, of the looper's own queue, of the others, and of its rule counts, of which there are as many as rules
-pub record IsPlayed (s : Script) (q : ℕ) (made : List Entry) (parts : Parts) (a : LooperState) : Type 0 where
-  pub shown : IsShown s q made parts.root a
+pub record IsPlayed (lockstep : Bool) (s : Script) (q : ℕ) (made : List Entry) (parts : Parts) (a : LooperState) : Type 0 where
+  pub shown : IsShown lockstep s q made parts.frames parts.root a
   pub elsewhere : AreMadeElsewhere q parts.others.items a
   pub fired : parts.fired.items ≡ a.fired
   pub counts : length parts.fired.items ≡ length s.rules
 
 -- a step of the view root: whatever state it stood at, it stands now at what the step makes of that
-abbrev pub StepsRoot : Script → ℕ → (LooperState → LooperState) → List Entry → ViewRoot → List Entry → ViewRoot → Type 0
-StepsRoot s q step made root made' root' = HasText s → (a : LooperState) → IsShown s q made root a → IsShown s q made' root' (step a)
+abbrev pub StepsRoot : Bool → Script → ℕ → (LooperState → LooperState) → List Entry → Pass → ViewRoot → List Entry → Pass → ViewRoot → Type 0
+StepsRoot lockstep s q step made pass root made' pass' root' =
+    HasText s → (a : LooperState) → IsShown lockstep s q made pass root a → IsShown lockstep s q made' pass' root' (step a)
 
--- the same of all that a looper has
+-- the same of all that a looper has, in each mode
 abbrev pub Plays : Script → ℕ → (LooperState → LooperState) → List Entry → Parts → List Entry → Parts → Type 0
-Plays s q step made parts made' parts' = HasText s → (a : LooperState) → IsPlayed s q made parts a → IsPlayed s q made' parts' (step a)
+Plays s q step made parts made' parts' =
+    (lockstep : Bool) → HasText s → (a : LooperState) → IsPlayed lockstep s q made parts a → IsPlayed lockstep s q made' parts' (step a)
+
+-- a run in this mode may tell what is done at this moment as done at that time: in lockstep the two are one
+abbrev pub MayTell : Bool → ℕ → ℕ → Type 0
+MayTell lockstep now at = lockstep ≡ true → at ≡ now
+
+-- a step of all that a looper has at this moment, in each mode, told at each time that a run may tell of it
+abbrev pub PlaysAt : Script → ℕ → ℕ → (ℕ → LooperState → LooperState) → List Entry → Parts → List Entry → Parts → Type 0
+PlaysAt s q now step made parts made' parts' =
+    HasText s → (lockstep : Bool) (at : ℕ) → MayTell lockstep now at → (a : LooperState)
+    → IsPlayed lockstep s q made parts a → IsPlayed lockstep s q made' parts' (step at a)
+
+-- and so it may of what is done at moments that pass the test: in lockstep they are that time
+abbrev pub MayTellAll : Bool → (ℕ → Bool) → ℕ → Type 0
+MayTellAll lockstep is_moment at = lockstep ≡ true → (n : ℕ) → is_moment n ≡ true → n ≡ nanos_of at
+
+-- it may tell so of a message's delivery at this moment, and of its frame: what the rules take is told at the moment itself
+pub record MayTellDelivery (lockstep : Bool) (q : ℕ) (m : PostData) (now : ℕ) (is_moment : ℕ → Bool) (at : ℕ) : Type 0 where
+  pub rules : goes_to_rules q m ≡ true → at ≡ now
+  pub time : MayTell lockstep now at
+  pub frame : MayTellAll lockstep is_moment at
 
 -- all but the rule counts is as before
 abbrev pub AreAllButCounts : Parts → Parts → Type 0
@@ -142,10 +164,6 @@ FiresAt place times parts parts' false = (parts' ≡ parts) × ((n : ℕ) → sl
 
 -- ---- a frame, a message and a pulse
 
--- the identities of callbacks that ran
-abbrev pub ids_of : List Run → List ℕ
-ids_of runs = map (λ r. r.0.id) runs
-
 -- one call more
 abbrev pub with_call : ℕ → Call → Timing → LooperState → LooperState
 with_call queue call timing a = record a { sent = a.sent ++ record { queue = queue; ask = Makes call; reply = None; timing = timing } ∷ [] }
@@ -155,11 +173,6 @@ abbrev pub rule_met : Script → ℕ → PostData → ℕ → Rule → LooperSta
 rule_met s now m place r a =
     option_map_or (λ n. if fires m r n then record a { fired = slice_set a.fired place (n + 1); sent = a.sent ++ reaction s now r ∷ [] } else a)
     (slice_get a.fired place) a
-
--- the moments of a frame that began there, or none where there is no frame
-abbrev pub moments_of : List FrameEntry → Option ℕ → List ℕ
-moments_of fs None = []
-moments_of fs (Some place) = frame_moments fs place
 
 -- the pass alone delivers the pulses of its choreographer; this is the stamp of the latest one, or 0 before the first, and so it is whether its frame is to
 -- begin
@@ -206,7 +219,8 @@ RunsInTime is_moment before after frame =
 abbrev pub BeginsNoneFrom : ℕ → Pass → Type 0
 BeginsNoneFrom place p = list_any is_begin (drop place p.view.seen) ≡ false
 
--- where the pass alone delivers pulses, and had seen no frame begin from some place on, it has seen none begin behind this one, or else from that place on
+-- where the pass alone delivers pulses, and had seen no frame begin from some place on: then it has seen none begin behind the frame that began at this
+-- place, or, where none did, from the same place on
 abbrev pub BeginsNoneBehind : Pass → Pass → Option ℕ → Type 0
 BeginsNoneBehind before after frame =
     IfAlone before ((first : ℕ) → first ≤ length before.view.seen → BeginsNoneFrom first before → BeginsNoneFrom (place_after first frame) after)
@@ -227,30 +241,20 @@ pub record IsNextPulse (period : ℕ) (before after : Parts) (came : Option ℕ)
 abbrev pub IsStampedBy : Pass → Option ℕ → ℕ → Type 0
 IsStampedBy after frame stamp = (fs : List FrameEntry) → IsPrefix after.view.seen fs → has_stamp fs frame stamp ≡ true
 
--- by whatever the frame record comes to, a frame began behind all that the pass had seen before, and ran callbacks of these identities; its start and the
--- moments of its phases, one for each phase, pass the test; or none began and none ran
-abbrev pub IsFrameBy : ℕ → ℕ → (ℕ → Bool) → Pass → Pass → Option ℕ → List ℕ → Type 0
-IsFrameBy interval phases is_moment before after frame ids = (fs : List FrameEntry) → IsPrefix after.view.seen fs → lawful interval phases fs ≡ true
-    → (is_frame_from fs (length before.view.seen) frame ≡ true) × (frame_ids fs frame ≡ ids) × (list_all is_moment (moments_of fs frame) ≡ true)
-    × ((is_none frame || length (moments_of fs frame) == phases + 1) ≡ true)
+-- by whatever the frame record comes to, a frame began behind all that the pass had seen before, and its phases ran callbacks of these identities; or none
+-- began and none ran
+abbrev pub IsFrameBy : ℕ → ℕ → Pass → Pass → Option ℕ → Option (List (List ℕ)) → Type 0
+IsFrameBy interval phases before after frame ids = (fs : List FrameEntry) → IsPrefix after.view.seen fs → lawful interval phases fs ≡ true
+    → (is_frame_from fs (length before.view.seen) frame ≡ true) × (option_map (frame_ids phases fs) frame ≡ ids)
 
--- what a frame is asked for by that starts at this moment, or nothing where there is no frame
-abbrev pub asks_for : Option ℕ → ℕ → List FrameAsk
-asks_for None start = []
-asks_for (Some place) start = Runs start ∷ []
-
--- callbacks of these identities ran, of a frame whose beginning the pass has seen, or of none, and the pass asked for that frame, by its start, and for nothing
--- else; its moments pass the test, and it began with the stamp of the latest pulse. Where the test is of one moment alone, and the
--- pass, which alone delivers pulses, had seen no later one, it has seen none still, and a frame that was to begin and is to begin no more began. It has seen
--- none begin behind that frame
-pub record RanFrame (interval phases : ℕ) (is_moment : ℕ → Bool) (before after : Pass) (ids : List ℕ) : Type 0 where
+-- the phases of a frame whose beginning the pass has seen ran callbacks of these identities, or there was no frame; it began with the stamp of the latest
+-- pulse. Where the test is of one moment alone, and the pass, which alone delivers pulses, had seen no later one, it has seen none still, and a frame that was
+-- to begin and is to begin no more began. It has seen none begin behind that frame
+pub record RanFrame (interval phases : ℕ) (is_moment : ℕ → Bool) (before after : Pass) (ids : Option (List (List ℕ))) : Type 0 where
   pub frame : Option ℕ
-  pub start : ℕ
-  pub framed : IsFrameBy interval phases is_moment before after frame ids
-  pub started : (is_none frame || is_moment start) ≡ true
+  pub framed : IsFrameBy interval phases before after frame ids
   pub within : place_after 0 frame ≤ length after.view.seen
   pub grew : IsPrefix before.view.seen after.view.seen
-  pub asks : pass_asks after ≡ pass_asks before ++ asks_for frame start
   pub stamped : (stamp : ℕ) (awaits : Bool) → HasLatest before stamp awaits → IsStampedBy after frame stamp
   pub in_time : RunsInTime is_moment before after frame
   pub last : BeginsNoneBehind before after frame
@@ -260,17 +264,18 @@ pub record AwaitsBehind (q : ℕ) (m : PostData) (parts parts' : Parts) : Type 0
   pub waits : parts'.awaits ≡ (parts.awaits && not (starts_frame q m))
   pub latest : (stamp : ℕ) → HasLatest parts.frames stamp parts.awaits → HasLatest parts'.frames stamp parts'.awaits
 
--- a message was delivered at this moment: its frame, where it began one, was that of a pulse that came and ran at moments that pass the test, and what was
--- painted is told
+-- a message was delivered at this moment: its frame, where it began one, was that of a pulse that came; what it called and asked is told at each time that a
+-- run may tell of it, and what was painted is told
 pub record Delivers (s : Script) (q now : ℕ) (is_moment : ℕ → Bool) (m : PostData) (made made' : List Entry)
     (parts parts' : Parts) (acts acts' : List Act) : Type 0 where
-  pub ids : List ℕ
+  pub ids : Option (List (List ℕ))
   pub ran : RanFrame s.period (phase_count s.edition) is_moment parts.frames parts'.frames ids
   pub starts : (not (is_some ran.frame) || starts_frame q m) ≡ true
   pub awaited : (not (is_some ran.frame) || parts.awaits) ≡ true
   pub waits : AwaitsBehind q m parts parts'
-  pub plays : HasText s → (a : LooperState) → a.painted ≡ [] → IsPlayed s q made parts a
-      → IsPlayed s q made' parts' (record (after_dispatch s q now ids m a) { painted = [] }) × (acts' ≡ acts ++ (after_dispatch s q now ids m a).painted)
+  pub plays : HasText s → (lockstep : Bool) (at : ℕ) → MayTellDelivery lockstep q m now is_moment at
+      → (a : LooperState) → a.painted ≡ [] → IsPlayed lockstep s q made parts a
+      → IsPlayed lockstep s q made' parts' (record (after_dispatch s q at ids m a) { painted = [] }) × (acts' ≡ acts ++ (after_dispatch s q at ids m a).painted)
 
 -- the act of a pulse that came, or none
 abbrev pub pulse_acts : Option ℕ → List Act
@@ -293,7 +298,7 @@ abbrev pub pulse_time : Option ℕ → ℕ
 pulse_time None = 0
 pulse_time (Some stamp) = millis_up stamp
 
--- what came of a pulse: the frame message was sent, unless memory ran out, or no pulse came; the looper's own pass asked for nothing
+-- what came of a pulse: the frame message was sent, unless memory ran out, or no pulse came; its pass asked for nothing
 abbrev pub DeliversPulse : Script → ℕ → ℕ → List Entry → List Entry → Parts → Parts → Option Pulse → Type 0
 DeliversPulse s q now made made' parts parts' None =
     IsPrefix parts.frames.view.seen parts'.frames.view.seen × (pass_asks parts'.frames ≡ pass_asks parts.frames)
@@ -303,7 +308,7 @@ DeliversPulse s q now made made' parts parts' (Some pulse) =
     → IsPrefix parts.frames.view.seen parts'.frames.view.seen × (pass_asks parts'.frames ≡ pass_asks parts.frames) × (millis_up pulse.stamp ≤ now)
     × Plays s q (looper_pulsed q (Some pulse.stamp)) made parts made' parts')
 
--- a pulse of the script's period was delivered and told, or none came, and the looper's own pass asked for nothing
+-- a pulse of the script's period was delivered and told, or none came, and its pass asked for nothing
 pub record Pulses (s : Script) (q now : ℕ) (made made' : List Entry) (parts parts' : Parts) (acts acts' : List Act) : Type 0 where
   pub stamp : Option ℕ
   pub next : IsNextPulse s.period parts parts' stamp
@@ -313,58 +318,27 @@ pub record Pulses (s : Script) (q now : ℕ) (made made' : List Entry) (parts pa
   pub asks : pass_asks parts'.frames ≡ pass_asks parts.frames
   pub plays : Plays s q (looper_pulsed q stamp) made parts made' parts'
 
--- ---- what is told in a mode
-
--- a call without its timing, and a frame without the time at which it was to start
-abbrev pub untimed : SentCall → SentCall
-untimed x = record x { timing = AnyTime }
-
-abbrev pub unstarted : FrameAt → FrameAt
-unstarted x = record x { now = 0 }
-
--- two states that differ at most in what free mode leaves open: the timing of calls, the due times of frame callbacks, and the starts of frames
-pub record AreAlike (a b : LooperState) : Type 0 where
-  pub gauges : a.gauges ≡ b.gauges
-  pub barrier : a.barrier ≡ b.barrier
-  pub barriers : a.barriers ≡ b.barriers
-  pub fired : a.fired ≡ b.fired
-  pub sent : map untimed a.sent ≡ map untimed b.sent
-  pub posted : map (as_told false) a.posted ≡ map (as_told false) b.posted
-  pub painted : a.painted ≡ b.painted
-  pub place : a.place ≡ b.place
-  pub frames : map unstarted a.frames ≡ map unstarted b.frames
-
 -- ---- between two acts
 
 -- in a queue's history in lockstep: no moment of what the pass has seen is later than the queue's time, and each pulse of these acts whose message is taken has
 -- its frame
-pub record HasAllFrames (s : Script) (es : List Entry) (acts : List Act) (p : Pass) (awaits : Bool) (frames : List FrameAt) : Type 0 where
+pub record HasAllFrames (s : Script) (es : List Entry) (acts : List Act) (p : Pass) (a : LooperState) : Type 0 where
   pub up_to : HasSeenUpTo (nanos_of (clock (empty_base (sender_count s)) es)) p
-  pub pulses : length (filter_map pulse_stamp acts) ≡ length frames + (if awaits then 1 else 0)
+  pub pulses : length (filter_map pulse_stamp acts) ≡ a.frame_count + (if a.awaits then 1 else 0)
 
--- the looper's acts lead to the one state, by whatever its frame record comes to, and all that the other state says is so: each frame that it ran took all
--- phases, in lockstep at its time, at which it started, and its own pass asked for these frames, as it is told in the mode, in order and for nothing else.
--- The latest pulse of its own pass is that of the acts, and its frame is to begin just where they say so; in lockstep each pulse had its frame. Behind the
--- latest frame of the acts its own pass has seen none begin
-pub record StandsBy (lockstep : Bool) (s : Script) (q sender : ℕ) (es : List Entry) (acts : List Act) (parts : Parts) (did a : LooperState) : Type 0 where
+-- the looper's acts lead to this state, by whatever its frame record comes to, and all that the state says is so, as it is told in the mode. The latest pulse
+-- of its pass is that of the acts, and its frame is to begin just where they say so; in lockstep each pulse had its frame. Behind the latest frame of the acts
+-- its pass has seen none begin
+pub record StandsBy (lockstep : Bool) (s : Script) (q sender : ℕ) (es : List Entry) (acts : List Act) (parts : Parts) (a : LooperState) : Type 0 where
   pub led : (fs : List FrameEntry) → IsPrefix parts.frames.view.seen fs → lawful s.period (phase_count s.edition) fs ≡ true
       → ActsLead s q es fs (first_looper s) acts a
   pub place : a.place ≤ length parts.frames.view.seen
   pub last : BeginsNoneFrom a.place parts.frames
-  pub moments : lockstep ≡ true → (fs : List FrameEntry) → IsPrefix parts.frames.view.seen fs → lawful s.period (phase_count s.edition) fs ≡ true
-      → are_run_then fs did.frames ≡ true
-  pub whole : (fs : List FrameEntry) → IsPrefix parts.frames.view.seen fs → lawful s.period (phase_count s.edition) fs ≡ true
-      → are_whole (phase_count s.edition) fs did.frames ≡ true
-  pub ran : map (as_told lockstep) (pass_asks parts.frames) ≡ map (as_told lockstep) (asks_to_run did.frames)
   pub settled : a.painted ≡ []
   pub latest_is : HasLatest parts.frames a.stamp a.awaits
   pub awaits_is : parts.awaits ≡ a.awaits
-  pub in_time : lockstep ≡ true → IsSoundOn s q es → HasAllFrames s es acts parts.frames a.awaits did.frames
-  pub played : IsPlayed s q (calls_in sender es) parts did
-
--- in lockstep, of one state: each frame that its dispatches ran started at the time of its dispatch
-abbrev pub Stands : Script → ℕ → ℕ → List Entry → List Act → Parts → LooperState → Type 0
-Stands s q sender es acts parts a = StandsBy true s q sender es acts parts a a
+  pub in_time : lockstep ≡ true → IsSoundOn s q es → HasAllFrames s es acts parts.frames a
+  pub played : IsPlayed lockstep s q (calls_in sender es) parts a
 
 -- the sender looked at this time, among these entries
 abbrev pub HasLookedAt : ℕ → List Entry → ℕ → Type 0
@@ -378,39 +352,37 @@ IsTimedBy q sender looks now queue (InBlock time) = ⊥
 IsTimedBy q sender looks now queue (Exactly time) = (time ≡ now) × (queue ≡ q)
 IsTimedBy q sender looks now queue AnyTime = ⊥
 
--- to post a callback is asked at this time, which is due at once
-abbrev pub IsAskedDueAt : ℕ → FrameAsk → Type 0
-IsAskedDueAt time (Posts phase due id token) = due ≡ frame_due time 0
-IsAskedDueAt time (Removes phase id token) = ⊥
-IsAskedDueAt time (Runs start) = ⊥
+-- this is asked at this time: a callback is due at once, and a frame begins and its phases are taken then; no callback is removed
+abbrev pub IsAskedAt : ℕ → FrameAsk → Type 0
+IsAskedAt time (Posts phase due id token) = due ≡ frame_due time 0
+IsAskedAt time (Removes phase id token) = ⊥
+IsAskedAt time (Begins start) = start ≡ nanos_of time
+IsAskedAt time (Takes phase moment) = moment ≡ nanos_of time
 
 -- so it is at the time of a look of the sender among these entries
-abbrev pub IsPostedBy : ℕ → List Entry → FrameAsk → Type 0
-IsPostedBy sender looks x = (time : ℕ) × HasLookedAt sender looks time × IsAskedDueAt time x
+abbrev pub IsAskedBy : ℕ → List Entry → FrameAsk → Type 0
+IsAskedBy sender looks x = (time : ℕ) × HasLookedAt sender looks time × IsAskedAt time x
 
--- the second state has these calls more, each timed so, and these callbacks and these frames, each at the time of a look of the sender among these entries
+-- the second state has these calls more, each timed so, and asks these more of its choreographer, each at the time of a look of the sender among these entries
 pub record GoesOnTo (q sender : ℕ) (looks : List Entry) (now : ℕ) (a b : LooperState) : Type 0 where
   pub more : List SentCall
   pub sent : b.sent ≡ a.sent ++ more
   pub timed : All (λ x. IsTimedBy q sender looks now x.queue x.timing) more
-  pub posts : List FrameAsk
-  pub posted : b.posted ≡ a.posted ++ posts
-  pub posted_then : All (IsPostedBy sender looks) posts
-  pub ran : List FrameAt
-  pub frames : b.frames ≡ a.frames ++ ran
-  pub ran_then : All (λ x. HasLookedAt sender looks x.now) ran
+  pub asks : List FrameAsk
+  pub asked : b.asked ≡ a.asked ++ asks
+  pub asked_then : All (IsAskedBy sender looks) asks
 
 -- where a looper stands between two rounds, and it told no pulse behind a dispatch of its own millisecond
 abbrev pub StandsBetweenRounds : Script → StageLooper → LooperState → Type 0
 StandsBetweenRounds s l a =
-    IsSomeAnd l.parts (λ parts. Stands s l.number l.sender l.looper.held.poster.view.seen l.looper.held.journal.acts parts a)
+    IsSomeAnd l.parts (λ parts. StandsBy true s l.number l.sender l.looper.held.poster.view.seen l.looper.held.journal.acts parts a)
     × TellsPulsesFirst l.dispatched l.looper.held.journal.acts
 
 -- the looper went on to this state, has seen these entries more, and told no pulse behind a dispatch of its own millisecond, nor a dispatch of a later time
 -- than it keeps
 pub record ComesTo (s : Script) (q now : ℕ) (a : LooperState) (dispatched sender : ℕ) (seen es : List Entry) (acts : List Act) (parts : Parts) : Type 0 where
   pub state : LooperState
-  pub stands : Stands s q sender es acts parts state
+  pub stands : StandsBy true s q sender es acts parts state
   pub looks : List Entry
   pub saw : es ≡ seen ++ looks
   pub on : GoesOnTo q sender looks now a state
@@ -429,57 +401,34 @@ HasPlayed s now before after = is_given_up after.last ≡ false → HasText s �
 
 -- ---- by a clock
 
--- where a looper stands between two loops: its acts lead to the one state, it did what the other says, and the two are alike
-abbrev pub StandsBetweenLoops : Script → StageLooper → LooperState → LooperState → Type 0
-StandsBetweenLoops s l did a =
-    AreAlike did a × IsSomeAnd l.parts (λ parts. StandsBy false s l.number l.sender l.looper.held.poster.view.seen l.looper.held.journal.acts parts did a)
+-- where a looper stands between two loops
+abbrev pub StandsBetweenLoops : Script → StageLooper → LooperState → Type 0
+StandsBetweenLoops s l a = IsSomeAnd l.parts (λ parts. StandsBy false s l.number l.sender l.looper.held.poster.view.seen l.looper.held.journal.acts parts a)
 
--- it went on to such states
-pub record ComesBy (s : Script) (q sender : ℕ) (es : List Entry) (acts : List Act) (parts : Parts) : Type 0 where
-  pub did : LooperState
-  pub state : LooperState
-  pub alike : AreAlike did state
-  pub stands : StandsBy false s q sender es acts parts did state
+-- it stands at some state
+abbrev pub StandsSomewhere : Script → ℕ → ℕ → List Entry → List Act → Parts → Type 0
+StandsSomewhere s q sender es acts parts = (a : LooperState) × StandsBy false s q sender es acts parts a
 
--- in a loop by a clock: from whatever states it began it has gone on
+-- in a loop by a clock: from whatever state it began it has gone on
 abbrev pub IsPlayingBy : Script → ℕ → StageLooper → ℕ → List Entry → List Act → Parts → Type 0
-IsPlayingBy s q began sender es acts parts = HasText s → (did a : LooperState) → StandsBetweenLoops s began did a → ComesBy s q sender es acts parts
+IsPlayingBy s q began sender es acts parts =
+    HasText s → (a : LooperState) → StandsBetweenLoops s began a → StandsSomewhere s q sender es acts parts
 
 -- the same once the loop is over, unless memory ran out
 abbrev pub HasPlayedBy : Script → StageLooper → StageLooper → Type 0
-HasPlayedBy s before after = is_given_up after.last ≡ false → HasText s → (did a : LooperState) → StandsBetweenLoops s before did a
-    → IsSomeAnd after.parts (ComesBy s before.number before.sender after.looper.held.poster.view.seen after.looper.held.journal.acts)
+HasPlayedBy s before after = is_given_up after.last ≡ false → HasText s → (a : LooperState) → StandsBetweenLoops s before a
+    → IsSomeAnd after.parts (StandsSomewhere s before.number before.sender after.looper.held.poster.view.seen after.looper.held.journal.acts)
 
 -- ---- at the end
 
--- where a looper stood, told by its journal and what it worked with
-pub record HasLeft (s : Script) (q : ℕ) (j : Journal) (kit : Kit) (a : LooperState) : Type 0 where
+-- where a looper stood, told in its mode by its journal and what it worked with
+pub record HasLeft (lockstep : Bool) (s : Script) (q : ℕ) (j : Journal) (kit : Kit) (a : LooperState) : Type 0 where
   pub led : (d : Sender) (p : Pass) (fs : List FrameEntry) → IsPrefix (slice_index_or kit.frames.items 0 p).view.seen fs
       → lawful s.period (phase_count s.edition) fs ≡ true
       → ActsLead s q (slice_index_or kit.posters.items q d).view.seen fs (first_looper s) j.acts a
-  pub moments : (p : Pass) (fs : List FrameEntry) → IsPrefix (slice_index_or kit.frames.items 0 p).view.seen fs
-      → lawful s.period (phase_count s.edition) fs ≡ true → are_run_then fs a.frames ≡ true
-  pub pulses : (d : Sender) → IsSoundOn s q (slice_index_or kit.posters.items q d).view.seen → has_frames j.acts a ≡ true
-  pub pulses_first : pulses_come_first j.acts ≡ true
-  pub whole : (p : Pass) (fs : List FrameEntry) → IsPrefix (slice_index_or kit.frames.items 0 p).view.seen fs
-      → lawful s.period (phase_count s.edition) fs ≡ true → are_whole (phase_count s.edition) fs a.frames ≡ true
+  pub pulses : (d : Sender) → lockstep ≡ true → IsSoundOn s q (slice_index_or kit.posters.items q d).view.seen → has_frames j.acts a ≡ true
+  pub pulses_first : lockstep ≡ true → pulses_come_first j.acts ≡ true
   pub settled : a.painted ≡ []
   pub calls : (d : Sender) → AreFor IsSent [] (sent_on q a.sent) (calls_of (slice_index_or kit.posters.items q d))
   pub elsewhere : (k : ℕ) (d : Sender) → k ≢ q → k < length kit.posters.items → AreFor IsSent [] (sent_on k a.sent) (own (slice_index_or kit.posters.items k d))
-  pub asked : (p : Pass) → pass_asks (slice_index_or kit.frames.items 1 p) ≡ a.posted
-  pub turns : (p : Pass) → (slice_index_or kit.frames.items 1 p).view.turns ≡ length a.posted
-  pub ran : (p : Pass) → pass_asks (slice_index_or kit.frames.items 0 p) ≡ asks_to_run a.frames
-
--- the same of a looper by a clock, as free mode tells it: the due times of frame callbacks and the starts of frames are left open
-pub record HasLeftBy (s : Script) (q : ℕ) (j : Journal) (kit : Kit) (a : LooperState) : Type 0 where
-  pub led : (d : Sender) (p : Pass) (fs : List FrameEntry) → IsPrefix (slice_index_or kit.frames.items 0 p).view.seen fs
-      → lawful s.period (phase_count s.edition) fs ≡ true
-      → ActsLead s q (slice_index_or kit.posters.items q d).view.seen fs (first_looper s) j.acts a
-  pub whole : (p : Pass) (fs : List FrameEntry) → IsPrefix (slice_index_or kit.frames.items 0 p).view.seen fs
-      → lawful s.period (phase_count s.edition) fs ≡ true → are_whole (phase_count s.edition) fs a.frames ≡ true
-  pub settled : a.painted ≡ []
-  pub calls : (d : Sender) → AreFor IsSent [] (sent_on q a.sent) (calls_of (slice_index_or kit.posters.items q d))
-  pub elsewhere : (k : ℕ) (d : Sender) → k ≢ q → k < length kit.posters.items → AreFor IsSent [] (sent_on k a.sent) (own (slice_index_or kit.posters.items k d))
-  pub asked : (p : Pass) → map (as_told false) (pass_asks (slice_index_or kit.frames.items 1 p)) ≡ map (as_told false) a.posted
-  pub turns : (p : Pass) → (slice_index_or kit.frames.items 1 p).view.turns ≡ length a.posted
-  pub ran : (p : Pass) → map (as_told false) (pass_asks (slice_index_or kit.frames.items 0 p)) ≡ map (as_told false) (asks_to_run a.frames)
+  pub asked : (p : Pass) → PassHasAsked lockstep (slice_index_or kit.frames.items 0 p) a.asked

@@ -5,8 +5,7 @@ use Rattle.looper_run.specs.Holding.{Workplace, Sender}
 use Rattle.dash_hall.specs.declared.hall.Hall.{Hall}
 use Rattle.dash_loopers.specs.declared.player.Parts.{Parts}
 use Rattle.dash_loopers.specs.declared.looper.StageLooper.{StageLooper}
-use Rattle.dash_loopers.specs.declared.view_root.ViewRoot.{ViewRoot}
-use Rattle.dash_hall.specs.Kits.{FrameBadge, badge_of, frame_badge_of}
+use Rattle.dash_hall.specs.Kits.{badge_of, frame_badge_of}
 use Rattle.dash_loopers.specs.Loopers.{ArePartsOf, IsPlaceOf, IsLooperOf, MayAwait}
 
 -- whose code it is: the looper of this number in the hall of the script, in the round at this moment, and the looper as the round began
@@ -23,11 +22,10 @@ pub record ServesAt (s : Script) (hall : Hall) (number : ℕ) (parts : Parts) (w
   pub place : IsPlaceOf hall number w
   pub are_parts : ArePartsOf s hall number parts
 
--- the same posters and passes; and where the looper awaits a pulse's frame afterwards its pass knows of it, if so it was before
+-- the same posters and the same pass; and where the looper awaits a pulse's frame afterwards its pass knows of it, if so it was before
 pub record AreSameParts (before after : Parts) : Type 0 where
   pub others : map badge_of after.others.items ≡ map badge_of before.others.items
   pub frames : frame_badge_of after.frames ≡ frame_badge_of before.frames
-  pub client : frame_badge_of after.root.pass ≡ frame_badge_of before.root.pass
   pub awaits : MayAwait before → MayAwait after
 
 -- the first of the other posters, which is that of main's queue, rang its bell once
@@ -37,13 +35,3 @@ RingsMain before after = (d : Sender) → (slice_index_or after.others.items 0 d
 -- the place that one of a list has once the one at n is taken out
 abbrev pub PlaceWithout : ℕ → ℕ → ℕ → Type 0
 PlaceWithout n place j = ((place < n) × (j ≡ place)) ⊎ ((n < place) × (place ≡ j + 1))
-
--- whose frame it is: the view root by its reference and its pass, and the root and the poster as they were when the frame began
-pub record FrameOwner : Type 0 where
-  pub root_name : ℕ
-  pub pass : FrameBadge
-  pub root : ViewRoot
-  pub poster : Sender
-
-abbrev pub frame_owner : ℕ → ViewRoot → ViewRoot → Sender → FrameOwner
-frame_owner root_name now began poster = record { root_name = root_name; pass = frame_badge_of now.pass; root = began; poster = poster }

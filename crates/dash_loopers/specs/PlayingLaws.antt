@@ -22,7 +22,7 @@ use Rattle.dash_script.specs.declared.script.Script.{Script}
 use Rattle.looper_run.specs.Acts.{IsQuietAct}
 use Rattle.run_model.specs.Planned.{entries_by, sender_count}
 use Rattle.run_model.specs.Control.{Timing, At, InBlock, Exactly, AnyTime}
-use Rattle.run_model.specs.FrameRecords.{FrameAt, nanos_of}
+use Rattle.run_model.specs.FrameRecords.{FrameAsk, nanos_of}
 use Rattle.run_model.specs.Loopers.{LooperState, first_looper, after_act, pulse_stamp}
 use Rattle.choreographer.specs.Known.{Pass}
 use Rattle.choreographer.proofs.InTime.{later_then}
@@ -31,8 +31,7 @@ use Rattle.run_model.proofs.Growth.{ActsLead-entries}
 use Rattle.dash_loopers.specs.declared.player.Parts.{Parts}
 use Rattle.dash_loopers.specs.declared.looper.StageLooper.{StageLooper}
 use Rattle.dash_loopers.specs.PulsesFirst.{TellsPulsesFirst, tells_quiet}
-use Rattle.dash_loopers.specs.Played.{calls_in, IsPlayed, StandsBy, Stands, IsTimedBy, HasLookedAt, IsPostedBy, GoesOnTo, ComesTo, IsPlaying, IsPlayingBy}
-use Rattle.dash_loopers.specs.Played.{HasAllFrames}
+use Rattle.dash_loopers.specs.Played.{calls_in, IsPlayed, StandsBy, IsTimedBy, HasLookedAt, IsAskedBy, GoesOnTo, ComesTo, IsPlaying, IsPlayingBy, HasAllFrames}
 use Rattle.dash_loopers.specs.Loopers.{IsSoundOn, setting_for, is_disposal}
 
 -- ---- the calls of a sender, as entries are added
@@ -82,9 +81,9 @@ pub nanos_rise : (a b : ℕ) → a ≤ b → nanos_of a ≤ nanos_of b
 nanos_rise a b le = omega (arith, le)
 
 -- more entries
-pub runs_later : (s : Script) (q : ℕ) (es more : List Entry) (acts : List Act) (p : Pass) (awaits : Bool) (frames : List FrameAt)
-    → (IsSoundOn s q es → HasAllFrames s es acts p awaits frames) → IsSoundOn s q (es ++ more) → HasAllFrames s (es ++ more) acts p awaits frames
-runs_later s q es more acts p awaits frames ran sound =
+pub runs_later : (s : Script) (q : ℕ) (es more : List Entry) (acts : List Act) (p : Pass) (a : LooperState)
+    → (IsSoundOn s q es → HasAllFrames s es acts p a) → IsSoundOn s q (es ++ more) → HasAllFrames s (es ++ more) acts p a
+runs_later s q es more acts p a ran sound =
     let was = ran (sound_front s q es more sound) in
     let b : Base = empty_base (sender_count s) in
     let rises = nanos_rise (clock b es) (clock b (es ++ more)) (clock_front b es more) in
@@ -103,56 +102,46 @@ no_pulse acts x none =
 
 module _ {lockstep : Bool} (s : Script) (q k : ℕ) where
   -- entries that are no calls of the looper
-  pub stands_beside : (es more : List Entry) (acts : List Act) (parts : Parts) (did a : LooperState) → calls_in k (es ++ more) ≡ calls_in k es
-      → StandsBy lockstep s q k es acts parts did a → StandsBy lockstep s q k (es ++ more) acts parts did a
-  stands_beside es more acts parts did a same st = record {
+  pub stands_beside : (es more : List Entry) (acts : List Act) (parts : Parts) (a : LooperState) → calls_in k (es ++ more) ≡ calls_in k es
+      → StandsBy lockstep s q k es acts parts a → StandsBy lockstep s q k (es ++ more) acts parts a
+  stands_beside es more acts parts a same st = record {
     led = λ fs begins is. ActsLead-entries s q es fs more (first_looper s) acts a (st.led fs begins is);
     place = st.place;
     last = st.last;
-    moments = st.moments;
-    whole = st.whole;
-    ran = st.ran;
     settled = st.settled;
     latest_is = st.latest_is;
     awaits_is = st.awaits_is;
-    in_time = λ is sound. runs_later s q es more acts parts.frames a.awaits did.frames (st.in_time is) sound;
-    played = subst (λ l. IsPlayed s q l parts did) (sym same) st.played;
+    in_time = λ is sound. runs_later s q es more acts parts.frames a (st.in_time is) sound;
+    played = subst (λ l. IsPlayed lockstep s q l parts a) (sym same) st.played;
   }
 
   -- an act of an idle handler or an event
-  pub stands_quiet : (es : List Entry) (x : Act) (acts : List Act) (parts : Parts) (did a : LooperState) → IsQuietAct x
-      → StandsBy lockstep s q k es acts parts did a
-      → StandsBy lockstep s q k es (acts ++ x ∷ []) parts did a
+  pub stands_quiet : (es : List Entry) (x : Act) (acts : List Act) (parts : Parts) (a : LooperState) → IsQuietAct x
+      → StandsBy lockstep s q k es acts parts a → StandsBy lockstep s q k es (acts ++ x ∷ []) parts a
   unfolding after_act
-  stands_quiet es (Idle i t) acts parts did a is st = record {
+  stands_quiet es (Idle i t) acts parts a is st = record {
     led = λ fs begins law. ActsLead-snoc s q es fs None (first_looper s) acts a (Idle i t) (st.led fs begins law) (refl, st.settled);
     place = st.place;
     last = st.last;
-    moments = st.moments;
-    whole = st.whole;
-    ran = st.ran;
     settled = st.settled;
     latest_is = st.latest_is;
     awaits_is = st.awaits_is;
     in_time = λ is sound. let was = st.in_time is sound in record { up_to = was.up_to; pulses = no_pulse acts (Idle i t) refl ∙ was.pulses };
     played = st.played;
   }
-  stands_quiet es (Event f e m) acts parts did a is st = record {
+  stands_quiet es (Event f e m) acts parts a is st = record {
     led = λ fs begins law. ActsLead-snoc s q es fs None (first_looper s) acts a (Event f e m) (st.led fs begins law) (refl, st.settled);
     place = st.place;
     last = st.last;
-    moments = st.moments;
-    whole = st.whole;
-    ran = st.ran;
     settled = st.settled;
     latest_is = st.latest_is;
     awaits_is = st.awaits_is;
     in_time = λ is sound. let was = st.in_time is sound in record { up_to = was.up_to; pulses = no_pulse acts (Event f e m) refl ∙ was.pulses };
     played = st.played;
   }
-  stands_quiet es (Dispatch n m r) acts parts did a is st = absurd is
-  stands_quiet es (Vsync v) acts parts did a is st = absurd is
-  stands_quiet es (Paint g v) acts parts did a is st = absurd is
+  stands_quiet es (Dispatch n m r) acts parts a is st = absurd is
+  stands_quiet es (Vsync v) acts parts a is st = absurd is
+  stands_quiet es (Paint g v) acts parts a is st = absurd is
 
 -- ---- calls more, and looks more
 
@@ -176,6 +165,13 @@ timed_right q k looks more now queue (InBlock time) h = absurd h
 timed_right q k looks more now queue (Exactly time) h = h
 timed_right q k looks more now queue AnyTime h = absurd h
 
+-- what was asked by some looks is asked by more
+asked_left : (k : ℕ) (looks more : List Entry) (x : FrameAsk) → IsAskedBy k looks x → IsAskedBy k (looks ++ more) x
+asked_left k looks more x h = (h.0, looked_left k looks more h.0 h.1, h.2)
+
+asked_right : (k : ℕ) (looks more : List Entry) (x : FrameAsk) → IsAskedBy k more x → IsAskedBy k (looks ++ more) x
+asked_right k looks more x h = (h.0, looked_right k looks more h.0 h.1, h.2)
+
 pub goes_then : (q k : ℕ) (looks more : List Entry) (now : ℕ) (a b c : LooperState) → GoesOnTo q k looks now a b → GoesOnTo q k more now b c
     → GoesOnTo q k (looks ++ more) now a c
 goes_then q k looks more now a b c f g = record {
@@ -183,15 +179,10 @@ goes_then q k looks more now a b c f g = record {
   sent = g.sent ∙ (ap (λ l. l ++ g.more) f.sent ∙ append_assoc a.sent f.more g.more);
   timed = All-append (λ x. IsTimedBy q k (looks ++ more) now x.queue x.timing) f.more g.more
       (λ i x near. timed_left q k looks more now _ _ (f.timed i x near)) (λ i x near. timed_right q k looks more now _ _ (g.timed i x near));
-  posts = f.posts ++ g.posts;
-  posted = g.posted ∙ (ap (λ l. l ++ g.posts) f.posted ∙ append_assoc a.posted f.posts g.posts);
-  posted_then = All-append (IsPostedBy k (looks ++ more)) f.posts g.posts
-      (λ i x near. (let p = f.posted_then i x near in (p.0, looked_left k looks more p.0 p.1, p.2)))
-      (λ i x near. (let p = g.posted_then i x near in (p.0, looked_right k looks more p.0 p.1, p.2)));
-  ran = f.ran ++ g.ran;
-  frames = g.frames ∙ (ap (λ l. l ++ g.ran) f.frames ∙ append_assoc a.frames f.ran g.ran);
-  ran_then = All-append (λ x. HasLookedAt k (looks ++ more) x.now) f.ran g.ran
-      (λ i x near. looked_left k looks more _ (f.ran_then i x near)) (λ i x near. looked_right k looks more _ (g.ran_then i x near));
+  asks = f.asks ++ g.asks;
+  asked = g.asked ∙ (ap (λ l. l ++ g.asks) f.asked ∙ append_assoc a.asked f.asks g.asks);
+  asked_then = All-append (IsAskedBy k (looks ++ more)) f.asks g.asks
+      (λ i x near. asked_left k looks more _ (f.asked_then i x near)) (λ i x near. asked_right k looks more _ (g.asked_then i x near));
 }
 
 pub goes_nowhere : (q k : ℕ) (looks : List Entry) (now : ℕ) (a : LooperState) → GoesOnTo q k looks now a a
@@ -199,12 +190,9 @@ goes_nowhere q k looks now a = record {
   more = [];
   sent = sym (append-nil a.sent);
   timed = All-nil (λ x. IsTimedBy q k looks now x.queue x.timing);
-  posts = [];
-  posted = sym (append-nil a.posted);
-  posted_then = All-nil (IsPostedBy k looks);
-  ran = [];
-  frames = sym (append-nil a.frames);
-  ran_then = All-nil (λ (x : FrameAt). HasLookedAt k looks x.now);
+  asks = [];
+  asked = sym (append-nil a.asked);
+  asked_then = All-nil (IsAskedBy k looks);
 }
 
 -- ---- the laws
@@ -213,7 +201,7 @@ module _ (s : Script) (q now : ℕ) where
   -- one step more
   pub comes_on : (a : LooperState) (d d' k : ℕ) (seen es looks : List Entry) (acts acts' : List Act) (parts parts' : Parts)
       (c : ComesTo s q now a d k seen es acts parts) (b : LooperState) → TellsPulsesFirst d' acts'
-      → Stands s q k (es ++ looks) acts' parts' b → GoesOnTo q k looks now c.state b → ComesTo s q now a d' k seen (es ++ looks) acts' parts'
+      → StandsBy true s q k (es ++ looks) acts' parts' b → GoesOnTo q k looks now c.state b → ComesTo s q now a d' k seen (es ++ looks) acts' parts'
   comes_on a d d' k seen es looks acts acts' parts parts' c b first stands on = record {
     state = b;
     stands = stands;
@@ -230,7 +218,7 @@ module _ (s : Script) (q now : ℕ) where
     playing_others d k es e acts parts apart meets = λ text a come.
         let c = meets text a come in
         comes_on a d d k began.looper.held.poster.view.seen es (e ∷ []) acts acts parts parts c c.state c.first
-        (stands_beside s q k es (e ∷ []) acts parts c.state c.state (calls_others k es e apart) c.stands) (goes_nowhere q k (e ∷ []) now c.state)
+        (stands_beside s q k es (e ∷ []) acts parts c.state (calls_others k es e apart) c.stands) (goes_nowhere q k (e ∷ []) now c.state)
 
     -- the looper's look that ends the queue
     pub playing_disposed : (d k : ℕ) (es : List Entry) (e : Entry) (time : ℕ) (acts : List Act) (parts : Parts) → e.sender ≡ k → e.call ≡ Next time
@@ -239,7 +227,7 @@ module _ (s : Script) (q now : ℕ) where
     playing_disposed d k es e time acts parts mine call reply meets = λ text a come.
         let c = meets text a come in
         comes_on a d d k began.looper.held.poster.view.seen es (e ∷ []) acts acts parts parts c c.state c.first
-        (stands_beside s q k es (e ∷ []) acts parts c.state c.state (calls_disposed k es e time mine call reply) c.stands)
+        (stands_beside s q k es (e ∷ []) acts parts c.state (calls_disposed k es e time mine call reply) c.stands)
         (goes_nowhere q k (e ∷ []) now c.state)
 
     -- an idle handler ran, or a listener was told of an event
@@ -249,7 +237,7 @@ module _ (s : Script) (q now : ℕ) where
         let c = meets text a come in
         record {
           state = c.state;
-          stands = stands_quiet s q k es x acts parts c.state c.state is c.stands;
+          stands = stands_quiet s q k es x acts parts c.state is c.stands;
           looks = c.looks;
           saw = c.saw;
           on = c.on;
@@ -262,31 +250,21 @@ module _ (s : Script) (q : ℕ) (began : StageLooper) where
   -- another sender's entry
   pub playing_by_others : (k : ℕ) (es : List Entry) (e : Entry) (acts : List Act) (parts : Parts) → (e.sender ≡ k → ⊥) → IsPlayingBy s q began k es acts parts
       → IsPlayingBy s q began k (es ++ e ∷ []) acts parts
-  playing_by_others k es e acts parts apart meets = λ text did a come.
-      let c = meets text did a come in
-      record {
-        did = c.did;
-        state = c.state;
-        alike = c.alike;
-        stands = stands_beside s q k es (e ∷ []) acts parts c.did c.state (calls_others k es e apart) c.stands;
-      }
+  playing_by_others k es e acts parts apart meets = λ text a come.
+      let c = meets text a come in
+      (c.0, stands_beside s q k es (e ∷ []) acts parts c.0 (calls_others k es e apart) c.1)
 
   -- the looper's look that ends the queue
   pub playing_by_disposed : (k : ℕ) (es : List Entry) (e : Entry) (time : ℕ) (acts : List Act) (parts : Parts) → e.sender ≡ k → e.call ≡ Next time
       → e.reply ≡ Disposed → IsPlayingBy s q began k es acts parts
       → IsPlayingBy s q began k (es ++ e ∷ []) acts parts
-  playing_by_disposed k es e time acts parts mine call reply meets = λ text did a come.
-      let c = meets text did a come in
-      record {
-        did = c.did;
-        state = c.state;
-        alike = c.alike;
-        stands = stands_beside s q k es (e ∷ []) acts parts c.did c.state (calls_disposed k es e time mine call reply) c.stands;
-      }
+  playing_by_disposed k es e time acts parts mine call reply meets = λ text a come.
+      let c = meets text a come in
+      (c.0, stands_beside s q k es (e ∷ []) acts parts c.0 (calls_disposed k es e time mine call reply) c.1)
 
   -- an idle handler ran, or a listener was told of an event
   pub playing_by_quiet : (k : ℕ) (es : List Entry) (x : Act) (acts : List Act) (parts : Parts) → IsQuietAct x → IsPlayingBy s q began k es acts parts
       → IsPlayingBy s q began k es (acts ++ x ∷ []) parts
-  playing_by_quiet k es x acts parts is meets = λ text did a come.
-      let c = meets text did a come in
-      record { did = c.did; state = c.state; alike = c.alike; stands = stands_quiet s q k es x acts parts c.did c.state is c.stands }
+  playing_by_quiet k es x acts parts is meets = λ text a come.
+      let c = meets text a come in
+      (c.0, stands_quiet s q k es x acts parts c.0 is c.1)

@@ -10,8 +10,8 @@ ghost use Rattle.run_model.specs.Loopers.{starts_frame, object_set};
 ghost use Rattle.looper_run.specs.Tests.{Unless};
 ghost use Rattle.choreographer.specs.declared.host.HostSent.TheVariants.{NoMemory as NoRoom};
 ghost use Rattle.choreographer.specs.Calls.{stamp_in};
-ghost use Rattle.dash_loopers.specs.Places.{ServesOn, PlayStep, DeliversOn, DeliversPulseOn, PulsesOn, PulsedOn, SchedulesIfDue};
-ghost use Rattle.dash_loopers.specs.Steps.{Leaves, KeepsToQueue, IsAtPlace, workplace_of, IsHostFor, TellsNothing, AsksNothing, TellsMore};
+ghost use Rattle.dash_loopers.specs.Places.{ServesOn, PlayStep, PlayStepAt, DeliversOn, DeliversPulseOn, PulsesOn, PulsedOn, SchedulesIfDue};
+ghost use Rattle.dash_loopers.specs.Steps.{Leaves, KeepsToQueue, IsAtPlace, workplace_of, IsHostFor, TellsNothing, AsksNothing, PostsOn, TellsMore};
 
 use crate::player::{Parts, Place, did};
 use crate::view_root::Painted;
@@ -111,9 +111,12 @@ impl<'a, R: Wait> Place<'a, R> {
         let pass_began = Snapshot::of(&*own.pass);
         let mut host = self.host(own.poster, own.pass, &began, &pass_began, now, uptime);
         parts.awaits = false;
-        parts
-            .root
-            .do_frame(self.choreographer(), &mut parts.frames, &mut host)?;
+        parts.root.do_frame(
+            self.choreographer(),
+            &mut parts.frames,
+            &mut host,
+            phase_count(self.script.edition),
+        )?;
         tell_painted(own.journal, parts.root.painted.as_slice())?;
         parts.root.painted.clear();
         Ok(())
@@ -152,17 +155,22 @@ impl<'a, R: Wait> Place<'a, R> {
     ) -> Result<(), NoMemory>
         requires serves { ServesOn self.now parts.old own.old }
         ensures leaves { KeepsToQueue now parts.old parts.new own.old own.new }
-        ensures plays { OnOk result (PlayStep self.now (object_set self.now.script.now self.now.looper now object target) own.old own.new parts.old parts.new) }
+        ensures plays { OnOk result (PlayStepAt self.now now (λ at. object_set self.now.script.now self.now.looper at object target)
+            own.old own.new parts.old parts.new) }
         ensures acts { own.new.journal.now.acts ≡ own.old.journal.now.acts }
-        ensures frames { (parts.new.frames ≡ parts.old.frames) × (parts.new.awaits ≡ parts.old.awaits) }
+        ensures posts { PostsOn parts.old.frames parts.new.frames × (parts.new.awaits ≡ parts.old.awaits) }
     {
         let began = Snapshot::of(&*own.poster);
         let pass_began = Snapshot::of(&*own.pass);
         let still = Still { now };
         let mut host = self.host(own.poster, own.pass, &began, &pass_began, now, &still);
-        parts
-            .root
-            .set_target(self.choreographer(), &mut host, object, target)
+        parts.root.set_target(
+            self.choreographer(),
+            &mut parts.frames,
+            &mut host,
+            object,
+            target,
+        )
     }
 
     /// A message by the choreographer's handler, which begins a frame, where a pulse came whose frame has neither begun nor would have

@@ -1,100 +1,100 @@
-//! The callbacks of one frame.
-ghost use Rattle.std.specs.Prelude.{◌≡◌, ◌<◌, Some, OnOk};
-ghost use Rattle.std.proofs.Common.{subst, sym};
-ghost use Rattle.choreographer.specs.Known.{IsPassOf, MayBegin};
-ghost use Rattle.dash_hall.specs.Kits.{frame_badge_of};
-ghost use Rattle.dash_loopers.specs.Places.{FrameShows, RootRuns, HasEndedWait};
-ghost use Rattle.dash_loopers.specs.Players.{FrameOwner, frame_owner};
-ghost use Rattle.dash_loopers.specs.Steps.{ShowsBy, LeavesRoot};
+//! The parts of one frame.
+ghost use Rattle.std.specs.Prelude.{◌≡◌, ◌<◌, map, OnOk};
+ghost use Rattle.choreographer.specs.Known.{MayBegin};
+ghost use Rattle.choreographer.specs.Within.{MayTake};
+ghost use Rattle.dash_loopers.specs.FrameParts.{ShowsBatch, ShowsPhase, ShowsPhases};
+ghost use Rattle.dash_loopers.specs.Places.{RootRuns};
+ghost use Rattle.dash_loopers.specs.Steps.{ShowsBy, PostsByHost, LeavesHost};
 
 use crate::view_root::ViewRoot;
-use choreographer::{Choreographer, ClientRan, FrameClient, FramePass, Framed};
+use choreographer::{Choreographer, FramePass};
 use dash_hall::{Host, Uptime};
-use frame_phases::Callback;
+use frame_phases::{Beginning, Callback, Took};
 use loop_model::NoMemory;
-use message_pool::PoolClaim;
-use shared_queue::Poster;
-use std::snapshot::Snapshot;
 use std::sync::Wait;
 
-/// A view root that runs the callbacks of one frame, and keeps which.
-#[derive(Drop)]
-pub(crate) struct FrameRun<'a> {
-    pub(crate) root: &'a mut ViewRoot,
-    /// The root, and the poster of its looper's queue, as they were when the frame began.
-    pub(crate) began: &'a Snapshot<ViewRoot>,
-    pub(crate) poster_began: &'a Snapshot<Poster<PoolClaim>>,
-    /// The callbacks that ran, each with its frame time in nanoseconds.
-    pub(crate) ran: &'a mut Vec<(Callback, u64)>,
-}
-
-impl<'a, 'b, R: Wait, U: Uptime> FrameClient<Host<'b, R, U>> for FrameRun<'a> {
-    ghost Serves = { λ l c. IsPassOf l.root.now.pass c × (3 < c.constants.phases) };
-
-    ghost Origin = { FrameOwner };
-
-    ghost origin = { λ l. frame_owner l.root.ghost_name l.root.now l.began.now.value l.poster_began.now.value };
-
-    ghost ran = { λ l. Some l.ran.now.items };
-
-    ghost Meets = { λ l h. FrameShows l h };
-
-    fn run(
-        &mut self,
-        c: &Choreographer,
-        host: &mut Host<'b, R, U>,
-        callback: &Callback,
-        time: u64,
-    ) -> ClientRan {
-        match self.root.run_callback(c, host, callback.id) {
-            Ok(()) => match self.ran.push((*callback, time)) {
-                Ok(()) => ClientRan::Done,
-                Err(_) => ClientRan::NoMemory,
-            },
-            Err(NoMemory) => ClientRan::NoMemory,
-        }
-    }
-
-    ghost stays = { λ l h now k reads meets. subst (λ x. FrameShows l x) (sym reads) meets };
-}
-
 impl ViewRoot {
-    /// Begins the frame that is to begin, unless it would go back, and runs its callbacks.
+    /// Begins the frame that is to begin, unless it would go back, and takes each of its phases and runs its callbacks, which post by
+    /// the same pass. A frame that is in progress is one that found no memory.
     pub(crate) fn do_frame<R: Wait, U: Uptime>(
         &mut self,
         c: &Choreographer,
         pass: &mut FramePass,
         host: &mut Host<R, U>,
+        phases: u32,
     ) -> Result<(), NoMemory>
-        requires by { ShowsBy c.now host.old self.old }
-        requires pass { IsPassOf pass.old c.now }
+        requires by { ShowsBy c.now host.old pass.old }
         requires begins { MayBegin pass.old c.now }
-        ensures keeps { LeavesRoot host.old host.new self.old self.new }
-        ensures pass { frame_badge_of pass.new ≡ frame_badge_of pass.old }
+        requires phases { phases ≡ c.now.constants.phases }
+        ensures keeps { LeavesHost host.old host.new pass.old pass.new }
         ensures ran { OnOk result (RootRuns c.now (U.is_moment host.old.uptime.now) pass.old pass.new host.old host.new self.old self.new) }
     {
-        let began = Snapshot::of(&*self);
-        let poster_began = Snapshot::of(&*host.poster);
-        let mut ran = Vec::new(host.alloc);
-        let mut client = FrameRun {
-            root: self,
-            began: &began,
-            poster_began: &poster_began,
-            ran: &mut ran,
-        };
-        framed(c.do_frame(host.rt, pass, host, &mut client))
+        match host.begin_frame(c, pass) {
+            Beginning::Began { time: _ } => self.run_phases(c, pass, host, phases),
+            Beginning::Running { next: _ } => Err(NoMemory),
+            Beginning::Unscheduled => Ok(()),
+            Beginning::Backwards { last: _ } => Ok(()),
+            Beginning::NoMemory => Err(NoMemory),
+        }
     }
-}
 
-/// Ok where a frame was run or would have gone back, or none was scheduled. One that is in progress is one that found no memory.
-fn framed(how: Framed) -> Result<(), NoMemory>
-    ensures ok { OnOk result (HasEndedWait how) }
-{
-    match how {
-        Framed::Done => Ok(()),
-        Framed::Elsewhere { .. } => Err(NoMemory),
-        Framed::Unscheduled => Ok(()),
-        Framed::Backwards { .. } => Ok(()),
-        Framed::NoMemory => Err(NoMemory),
+    /// Takes each phase of the frame that the pass has begun, and runs what it took.
+    fn run_phases<R: Wait, U: Uptime>(
+        &mut self,
+        c: &Choreographer,
+        pass: &mut FramePass,
+        host: &mut Host<R, U>,
+        phases: u32,
+    ) -> Result<(), NoMemory>
+        requires by { ShowsBy c.now host.old pass.old }
+        requires takes { MayTake c.now 0 pass.old }
+        requires phases { phases ≡ c.now.constants.phases }
+        ensures keeps { LeavesHost host.old host.new pass.old pass.new }
+        ensures ran { OnOk result (ShowsPhases c.now (U.is_moment host.old.uptime.now) phases pass.old pass.new host.old host.new self.old self.new) }
+    {
+        for phase in 0..phases {
+            self.run_phase(c, pass, host, phase)?;
+        }
+        Ok(())
+    }
+
+    /// Takes this phase, and runs what it took.
+    fn run_phase<R: Wait, U: Uptime>(
+        &mut self,
+        c: &Choreographer,
+        pass: &mut FramePass,
+        host: &mut Host<R, U>,
+        phase: u32,
+    ) -> Result<(), NoMemory>
+        requires by { ShowsBy c.now host.old pass.old }
+        requires takes { MayTake c.now phase pass.old × (phase < c.now.constants.phases) }
+        ensures keeps { LeavesHost host.old host.new pass.old pass.new }
+        ensures ran { OnOk result (ShowsPhase c.now (U.is_moment host.old.uptime.now) phase pass.old pass.new host.old host.new self.old self.new) }
+    {
+        match host.take_phase(c, pass, phase) {
+            Took::Batch { time: _, callbacks } => {
+                self.run_batch(c, pass, host, callbacks.as_slice())
+            }
+            Took::Elsewhere { next: _ } => unreachable!(),
+            Took::NoMemory => Err(NoMemory),
+        }
+    }
+
+    /// Runs the callbacks that a phase took.
+    fn run_batch<R: Wait, U: Uptime>(
+        &mut self,
+        c: &Choreographer,
+        pass: &mut FramePass,
+        host: &mut Host<R, U>,
+        callbacks: &[Callback],
+    ) -> Result<(), NoMemory>
+        requires by { ShowsBy c.now host.old pass.old }
+        ensures keeps { PostsByHost host.old host.new pass.old pass.new }
+        ensures ran { OnOk result (ShowsBatch (map (λ d. d.id) callbacks.now) host.old host.new pass.old pass.new self.old self.new) }
+    {
+        for callback in callbacks {
+            self.run_callback(c, pass, host, callback.id)?;
+        }
+        Ok(())
     }
 }

@@ -5,7 +5,7 @@ ghost use Rattle.shared_queue.specs.Known.{IsOf};
 ghost use Rattle.dash_loopers.specs.Players.{PlaceWithout};
 ghost use Rattle.choreographer.specs.Known.{IsPassOf, HasHeardWho};
 ghost use Rattle.dash_hall.specs.Hearing.{HasHeard, HaveHeardAt, AreKept, AreReady, AreKnown, PassHasHeard};
-ghost use Rattle.dash_loopers.specs.Loopers.{IsWithin, posters_of, LooperKeeps, OfItsPasses, TellsPasses, HearsPasses};
+ghost use Rattle.dash_loopers.specs.Loopers.{IsWithin, posters_of, LooperKeeps, OfItsPass, LooperTellsPass, LooperHearsPass};
 
 use crate::looper::StageLooper;
 use choreographer::{Choreographer, FramePass};
@@ -65,38 +65,36 @@ impl StageLooper {
         self.parts = Some(parts);
     }
 
-    /// Lets another pass of its choreographer hear its two. It takes no turn.
-    pub fn tell_passes(&mut self, choreographer: &Choreographer, other: &mut FramePass)
+    /// Lets another pass of its choreographer hear its own. It takes no turn.
+    pub fn tell_pass(&mut self, choreographer: &Choreographer, other: &mut FramePass)
         requires parts { IsSome self.old.parts }
-        requires passes { OfItsPasses (λ p. IsPassOf p choreographer.now) self.old }
+        requires passes { OfItsPass (λ p. IsPassOf p choreographer.now) self.old }
         requires other { IsPassOf other.old choreographer.now }
-        ensures kept { TellsPasses self.old self.new }
+        ensures kept { LooperTellsPass self.old self.new }
         ensures heard { PassHasHeard other.old other.new }
-        ensures told { OfItsPasses (λ p. IsPrefix p.view.heard other.new.view.heard) self.old }
+        ensures told { OfItsPass (λ p. IsPrefix p.view.heard other.new.view.heard) self.old }
         ensures knows { HasHeardWho other.new }
     {
         let Some(mut parts) = self.parts.take() else {
             unreachable!()
         };
         other.hear(choreographer, &mut parts.frames);
-        other.hear(choreographer, &mut parts.root.pass);
         self.parts = Some(parts);
     }
 
-    /// Lets its two passes of its choreographer hear another one, which has heard all that they have. It takes no turn.
-    pub fn hear_passes(&mut self, choreographer: &Choreographer, other: &mut FramePass)
+    /// Lets its pass of its choreographer hear another one, which has heard all that it has. It takes no turn.
+    pub fn hear_pass(&mut self, choreographer: &Choreographer, other: &mut FramePass)
         requires parts { IsSome self.old.parts }
-        requires passes { OfItsPasses (λ p. IsPassOf p choreographer.now) self.old }
+        requires passes { OfItsPass (λ p. IsPassOf p choreographer.now) self.old }
         requires other { IsPassOf other.old choreographer.now }
-        requires known { OfItsPasses (λ p. IsPrefix p.view.heard other.old.view.heard) self.old }
-        ensures kept { HearsPasses other.old.view.heard self.old self.new }
+        requires known { OfItsPass (λ p. IsPrefix p.view.heard other.old.view.heard) self.old }
+        ensures kept { LooperHearsPass other.old.view.heard self.old self.new }
         ensures other { other.new ≡ other.old }
     {
         let Some(mut parts) = self.parts.take() else {
             unreachable!()
         };
         parts.frames.hear(choreographer, other);
-        parts.root.pass.hear(choreographer, other);
         self.parts = Some(parts);
     }
 }

@@ -34,7 +34,7 @@ pub struct StageLooper {
     pub parts: Option<Parts>,
     /// How its last round ended.
     pub last: Round,
-    /// The latest time at which it dispatched a message in a round in lockstep, in milliseconds, or 0 before the first one.
+    /// The latest time at which it began to dispatch a message in a round in lockstep, in milliseconds, or 0 before the first one.
     pub dispatched: u64,
 }
 
@@ -59,11 +59,10 @@ impl StageLooper {
         } = kit;
         let poster = posters.remove(number as usize);
         let own_frames = frames.remove(0);
-        let client = frames.remove(0);
         let parts = Parts {
             others: posters,
             frames: own_frames,
-            root: ViewRoot::new(alloc, script, number, client)?,
+            root: ViewRoot::new(alloc, script, number)?,
             fired: vec![in alloc; 0; script.rules.len()]?,
             passed: 0,
             awaits: false,
@@ -198,14 +197,12 @@ impl StageLooper {
             edition: _,
             gauges: _,
             barrier: _,
-            pass: client,
             painted: _,
         } = root;
         let (poster, pass, journal) = looper.into_parts();
         others.insert(number as usize, poster)?;
         let mut passes = Vec::new(alloc);
         passes.push(frames)?;
-        passes.push(client)?;
         Ok((
             journal,
             Kit {

@@ -64,7 +64,7 @@ pub(crate) struct Player<'a, R: Wait, G: Gate> {
     pub(crate) sender: u32,
     /// The moment of the round, in milliseconds. A pulse is delivered then.
     pub(crate) now: u64,
-    /// The latest time at which the looper dispatched a message, in milliseconds, or 0 before the first one.
+    /// The latest time at which the looper began to dispatch a message, in milliseconds, or 0 before the first one.
     pub(crate) dispatched: u64,
     /// The looper as it was when the round began.
     pub(crate) began: &'a Snapshot<StageLooper>,

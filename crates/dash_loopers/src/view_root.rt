@@ -1,14 +1,15 @@
 //! The gauges of a looper, and its traversals.
 ghost use Rattle.std.specs.Prelude.{◌≡◌, ◌<◌, ◌≤◌, ◌++◌, [], ℕ, map, slice_get, slice_set, replicate, length, IfOk, OnOk, None, false};
 ghost use Rattle.std.specs.List.{flat_map, enumerate_from};
-ghost use Rattle.dash_hall.specs.Hosts.{IsHostNow};
+ghost use Rattle.choreographer.specs.Known.{Pass};
+ghost use Rattle.dash_hall.specs.Hosts.{IsHostNow, IsSameHost};
 ghost use Rattle.dash_loopers.specs.Places.{ShowsOn, HasGauges, HasPainted, animated};
 ghost use Rattle.dash_loopers.specs.Played.{standing, paint_of, paint_of_gauge};
 ghost use Rattle.dash_script.specs.declared.script.Script.{Script as ScriptData};
 ghost use Rattle.dash_script.specs.Reading.{HasText};
 ghost use Rattle.run_model.specs.Planned.{traversal_phase};
 ghost use Rattle.run_model.specs.Loopers.{object_set, traversal_requested, traversal_ran, callback_ran, and_posts_frame, paints, stepped_towards as moved_by};
-ghost use Rattle.dash_loopers.specs.Steps.{ShowsBy, LeavesRoot};
+ghost use Rattle.dash_loopers.specs.Steps.{ShowsBy, PostsByHost};
 
 use choreographer::{Choreographer, FramePass};
 use dash_hall::{Host, Uptime, looper_of};
@@ -51,27 +52,19 @@ pub(crate) struct Painted {
 }
 
 /// The gauges of a script, of which the looper's own change, and the looper's traversal: while one is under way, a sync barrier
-/// stands in the looper's queue, as AOSP's `ViewRootImpl` has it. It posts frame callbacks by a pass of its own.
+/// stands in the looper's queue, as AOSP's `ViewRootImpl` has it. It posts frame callbacks by the looper's pass.
 #[derive(Drop)]
 pub struct ViewRoot {
     /// The edition of the script.
     pub(crate) edition: u32,
     pub(crate) gauges: Vec<Gauge>,
     pub(crate) barrier: Option<u64>,
-    /// The pass by which it posts frame callbacks.
-    pub pass: FramePass,
     pub(crate) painted: Vec<Painted>,
 }
 
 impl ViewRoot {
     /// Gauges that stand at 0, and no traversal.
-    pub(crate) fn new(
-        alloc: Global,
-        script: &Script,
-        looper: u32,
-        pass: FramePass,
-    ) -> Result<ViewRoot, NoMemory>
-        ensures pass { IfOk result (λ v. v.pass ≡ pass) }
+    pub(crate) fn new(alloc: Global, script: &Script, looper: u32) -> Result<ViewRoot, NoMemory>
         ensures still { IfOk result (λ v. map standing v.gauges.items ≡ replicate (length script.now.gauges) (record { value = 0; target = 0; animating = false })) }
         ensures gauges { IfOk result (λ v. HasGauges script.now looper v) }
         ensures rest { IfOk result (λ v. (v.barrier ≡ None) × (v.painted.items ≡ []) × (v.edition ≡ script.now.edition)) }
@@ -90,7 +83,6 @@ impl ViewRoot {
             edition: script.edition,
             gauges,
             barrier: None,
-            pass,
             painted: Vec::new(alloc),
         })
     }
@@ -99,13 +91,14 @@ impl ViewRoot {
     pub(crate) fn set_target<R: Wait, U: Uptime>(
         &mut self,
         c: &Choreographer,
+        pass: &mut FramePass,
         host: &mut Host<R, U>,
         gauge: u64,
         target: u32,
     ) -> Result<(), NoMemory>
-        requires by { ShowsBy c.now host.old self.old }
-        ensures keeps { LeavesRoot host.old host.new self.old self.new }
-        ensures shows { (s : ScriptData) (q : ℕ) → OnOk result (ShowsOn host.old host.new s q (object_set s q host.old.now gauge target) self.old self.new) }
+        requires by { ShowsBy c.now host.old pass.old }
+        ensures keeps { PostsByHost host.old host.new pass.old pass.new }
+        ensures shows { OnOk result (ShowsOn host.old host.new (λ s q at. object_set s q at gauge target) pass.old pass.new self.old self.new) }
     {
         let Some(x) = self.gauge(gauge) else {
             return Ok(());
@@ -125,8 +118,14 @@ impl ViewRoot {
         if !starts {
             return Ok(());
         }
-        self.post(c, host, ANIMATION, FIRST_ANIMATION.saturating_add(gauge))?;
-        self.request_traversal(c, host)
+        self.post(
+            c,
+            pass,
+            host,
+            ANIMATION,
+            FIRST_ANIMATION.saturating_add(gauge),
+        )?;
+        self.request_traversal(c, pass, host)
     }
 
     /// The gauge of this number, where there is one.
@@ -140,8 +139,7 @@ impl ViewRoot {
     fn put(&mut self, gauge: u64, x: Gauge)
         requires { gauge < length self.old.gauges.items }
         ensures gauges { self.new.gauges.items ≡ slice_set self.old.gauges.items gauge x }
-        ensures same { (self.new.barrier ≡ self.old.barrier) × (self.new.pass ≡ self.old.pass) × (self.new.painted ≡ self.old.painted)
-            × (self.new.edition ≡ self.old.edition) }
+        ensures same { (self.new.barrier ≡ self.old.barrier) × (self.new.painted ≡ self.old.painted) × (self.new.edition ≡ self.old.edition) }
     {
         self.gauges[gauge as usize] = x;
     }
@@ -162,11 +160,12 @@ impl ViewRoot {
     fn request_traversal<R: Wait, U: Uptime>(
         &mut self,
         c: &Choreographer,
+        pass: &mut FramePass,
         host: &mut Host<R, U>,
     ) -> Result<(), NoMemory>
-        requires by { ShowsBy c.now host.old self.old }
-        ensures keeps { LeavesRoot host.old host.new self.old self.new }
-        ensures shows { (s : ScriptData) (q : ℕ) → OnOk result (ShowsOn host.old host.new s q (traversal_requested s q host.old.now) self.old self.new) }
+        requires by { ShowsBy c.now host.old pass.old }
+        ensures keeps { PostsByHost host.old host.new pass.old pass.new }
+        ensures shows { OnOk result (ShowsOn host.old host.new traversal_requested pass.old pass.new self.old self.new) }
     {
         if self.barrier.is_some() {
             return Ok(());
@@ -174,19 +173,20 @@ impl ViewRoot {
         let token = host.post_barrier()?;
         self.barrier = Some(token);
         let phase = self.traversal();
-        self.post(c, host, phase, TRAVERSAL_CALLBACK)
+        self.post(c, pass, host, phase, TRAVERSAL_CALLBACK)
     }
 
     /// The animation of a gauge moves it by a step, requests a traversal, and goes on until the target is reached.
     fn animate<R: Wait, U: Uptime>(
         &mut self,
         c: &Choreographer,
+        pass: &mut FramePass,
         host: &mut Host<R, U>,
         gauge: u64,
     ) -> Result<(), NoMemory>
-        requires by { ShowsBy c.now host.old self.old }
-        ensures keeps { LeavesRoot host.old host.new self.old self.new }
-        ensures shows { (s : ScriptData) (q : ℕ) → OnOk result (ShowsOn host.old host.new s q (animated s q host.old.now gauge) self.old self.new) }
+        requires by { ShowsBy c.now host.old pass.old }
+        ensures keeps { PostsByHost host.old host.new pass.old pass.new }
+        ensures shows { OnOk result (ShowsOn host.old host.new (λ s q at. animated s q at gauge) pass.old pass.new self.old self.new) }
     {
         let Some(x) = self.gauge(gauge) else {
             return Ok(());
@@ -204,18 +204,25 @@ impl ViewRoot {
                 ..x
             },
         );
-        self.request_traversal(c, host)?;
+        self.request_traversal(c, pass, host)?;
         if !animating {
             return Ok(());
         }
-        self.post(c, host, ANIMATION, FIRST_ANIMATION.saturating_add(gauge))
+        self.post(
+            c,
+            pass,
+            host,
+            ANIMATION,
+            FIRST_ANIMATION.saturating_add(gauge),
+        )
     }
 
     /// The traversal removes its barrier, and paints each gauge of the looper.
     fn traverse<R: Wait, U: Uptime>(&mut self, host: &mut Host<R, U>) -> Result<(), NoMemory>
         requires { IsHostNow host.old }
-        ensures keeps { LeavesRoot host.old host.new self.old self.new }
-        ensures shows { (s : ScriptData) (q : ℕ) → OnOk result (ShowsOn host.old host.new s q (traversal_ran s q host.old.now) self.old self.new) }
+        ensures ready { IsHostNow host.new }
+        ensures origin { IsSameHost host.old host.new }
+        ensures shows { (pass : Pass) → OnOk result (ShowsOn host.old host.new traversal_ran pass pass self.old self.new) }
     {
         let Some(token) = self.barrier else {
             return Ok(());
@@ -227,7 +234,6 @@ impl ViewRoot {
 
     /// Paints each gauge of the looper, by rising number.
     fn paint(&mut self) -> Result<(), NoMemory>
-        ensures pass { self.new.pass ≡ self.old.pass }
         ensures painted { (s : ScriptData) (q : ℕ) → HasText s → HasGauges s q self.old → OnOk result (HasPainted s q self.old self.new) }
         ensures same { (self.new.gauges ≡ self.old.gauges) × (self.new.barrier ≡ self.old.barrier) × (self.new.edition ≡ self.old.edition) }
     {
@@ -238,33 +244,35 @@ impl ViewRoot {
     fn post<R: Wait, U: Uptime>(
         &mut self,
         c: &Choreographer,
+        pass: &mut FramePass,
         host: &mut Host<R, U>,
         phase: u32,
         id: u64,
     ) -> Result<(), NoMemory>
-        requires by { ShowsBy c.now host.old self.old }
+        requires by { ShowsBy c.now host.old pass.old }
         requires phase { phase ≤ 3 }
-        ensures keeps { LeavesRoot host.old host.new self.old self.new }
-        ensures shows { (s : ScriptData) (q : ℕ) → OnOk result (ShowsOn host.old host.new s q (and_posts_frame host.old.now phase id) self.old self.new) }
+        ensures keeps { PostsByHost host.old host.new pass.old pass.new }
+        ensures shows { OnOk result (ShowsOn host.old host.new (λ s q at. and_posts_frame at phase id) pass.old pass.new self.old self.new) }
     {
-        host.post_callback(c, &mut self.pass, phase, id, 0)
+        host.post_callback(c, pass, phase, id, 0)
     }
 
     /// Runs a frame callback, by its identity.
     pub(crate) fn run_callback<R: Wait, U: Uptime>(
         &mut self,
         c: &Choreographer,
+        pass: &mut FramePass,
         host: &mut Host<R, U>,
         id: u64,
     ) -> Result<(), NoMemory>
-        requires by { ShowsBy c.now host.old self.old }
-        ensures keeps { LeavesRoot host.old host.new self.old self.new }
-        ensures shows { (s : ScriptData) (q : ℕ) → OnOk result (ShowsOn host.old host.new s q (λ a. callback_ran s q host.old.now a id) self.old self.new) }
+        requires by { ShowsBy c.now host.old pass.old }
+        ensures keeps { PostsByHost host.old host.new pass.old pass.new }
+        ensures shows { OnOk result (ShowsOn host.old host.new (λ s q at a. callback_ran s q at a id) pass.old pass.new self.old self.new) }
     {
         if id == TRAVERSAL_CALLBACK {
             self.traverse(host)
         } else if id >= FIRST_ANIMATION {
-            self.animate(c, host, id - FIRST_ANIMATION)
+            self.animate(c, pass, host, id - FIRST_ANIMATION)
         } else {
             Ok(())
         }

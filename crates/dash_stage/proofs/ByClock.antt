@@ -57,7 +57,7 @@ use Rattle.run_model.specs.Parts.{AreOfClock}
 use Rattle.run_model.specs.Loopers.{LooperState, first_looper}
 use Rattle.dash_hall.specs.ByClock.{is_by}
 use Rattle.dash_loopers.specs.declared.player.Parts.{Parts}
-use Rattle.dash_loopers.specs.Played.{AreAlike, StandsBy, ComesBy}
+use Rattle.dash_loopers.specs.Played.{StandsBy, StandsSomewhere}
 use Rattle.dash_loopers.proofs.LooperPlayed.{comes_free}
 use Rattle.dash_stage.specs.ControlSteps.{HasHaltedMain}
 use Rattle.dash_stage.specs.Opening.{HasOpened}
@@ -431,10 +431,10 @@ pub loops_still : (m : Mode) (s : Script) (hall : Hall) (ls : List StageLooper) 
 loops_still m s hall ls are k d lt = record { looper = are k d lt; number = refl; plays = played_self s (slice_index_or ls k d); clocked = λ on by. by; grew = grown_self (slice_index_or ls k d) }
 
 -- where a looper stands that has gone on
-came_by : (s : Script) (q k : ℕ) (es : List Entry) (acts : List Act) (o : Option Parts) → IsSomeAnd o (ComesBy s q k es acts)
-    → (did : LooperState) × (a : LooperState) × (AreAlike did a × IsSomeAnd o (λ parts. StandsBy false s q k es acts parts did a))
+came_by : (s : Script) (q k : ℕ) (es : List Entry) (acts : List Act) (o : Option Parts) → IsSomeAnd o (StandsSomewhere s q k es acts)
+    → (a : LooperState) × IsSomeAnd o (λ parts. StandsBy false s q k es acts parts a)
 came_by s q k es acts None h = absurd h
-came_by s q k es acts (Some parts) h = (h.did, h.state, (h.alike, h.stands))
+came_by s q k es acts (Some parts) h = h
 
 -- so many, each of its kind and with its place as its number
 abbrev AreNumberedOf : {X : Type 0} → (X → Type 0) → (X → ℕ) → ℕ → List X → Type 0
@@ -481,8 +481,8 @@ module _ (m : Mode) (s : Script) (hall : Hall) where
       let was = come k d within in
       let sender : y.sender ≡ x.sender = one.looper.sender ∙ (ap (λ (n : ℕ). s.threads + n) one.number ∙ sym (are.1 k d within).0.sender) in
       came_by s y.number y.sender y.looper.held.poster.view.seen y.looper.held.journal.acts y.parts
-      (subst (λ (n : ℕ). IsSomeAnd y.parts (ComesBy s n y.sender y.looper.held.poster.view.seen y.looper.held.journal.acts)) (sym one.number)
-      (subst (λ (n : ℕ). IsSomeAnd y.parts (ComesBy s x.number n y.looper.held.poster.view.seen y.looper.held.journal.acts)) (sym sender) (one.plays (on k d lt) text was.0 was.1 was.2)))
+      (subst (λ (n : ℕ). IsSomeAnd y.parts (StandsSomewhere s n y.sender y.looper.held.poster.view.seen y.looper.held.journal.acts)) (sym one.number)
+      (subst (λ (n : ℕ). IsSomeAnd y.parts (StandsSomewhere s x.number n y.looper.held.poster.view.seen y.looper.held.journal.acts)) (sym sender) (one.plays (on k d lt) text was.0 was.1)))
 
 -- ---- before the first call
 
@@ -510,7 +510,7 @@ begins_by_clock m s st some opened =
 
 -- the loopers stand at the state before the first act
 pub begins_played : (s : Script) (ls : List StageLooper) → HaveBegun s ls → EachStandsBetweenLoops s ls
-begins_played s ls begun k d lt = (first_looper s, first_looper s, comes_free s (slice_index_or ls k d) (first_looper s) (begun k d lt))
+begins_played s ls begun k d lt = (first_looper s, comes_free s (slice_index_or ls k d) (first_looper s) (begun k d lt))
 
 -- ---- all hear each other
 
@@ -548,7 +548,7 @@ module _ (m : Mode) (s : Script) (st st' : Stage) (is' : IsStageIn false s st') 
   played_heard is_hall are come k d lt =
       let within : k < length st.loopers.items = subst (λ (n : ℕ). k < n) kept.loopers.long lt in
       let was = come k d within in
-      (was.0, was.1, heard_come_by s st.hall is_hall (slice_index_or st.loopers.items k d) (are.1 k d within).0 (slice_index_or st'.loopers.items k d) (kept.loopers.each k d within) was.0 was.1 was.2)
+      (was.0, heard_come_by s st.hall is_hall (slice_index_or st.loopers.items k d) (are.1 k d within).0 (slice_index_or st'.loopers.items k d) (kept.loopers.each k d within) was.0 was.1)
 
   -- the controller's calls stand where they stood
   behind_heard : CallsBehindThreads s st.threads.items st.controller → CallsBehindThreads s st'.threads.items st'.controller

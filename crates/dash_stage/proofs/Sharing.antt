@@ -5,7 +5,7 @@ use Rattle.std.proofs.lemmas.Bool.{ne_eqb, lt-ltb, le-ltb}
 use Rattle.dash_loopers.specs.declared.looper.StageLooper.{StageLooper}
 use Rattle.looper_run.specs.Round.{is_ended}
 use Rattle.dash_hall.specs.Hearing.{HaveHeard, AtEach, AreKept, HaveHeardAt, AreReady, HaveSeenAt, PassHasHeard, PassesHaveHeardAt, ArePassesKnown, HaveSeenAll, HasHeardAll, HaveHeardAllAt, ArePassesReady, seen_by}
-use Rattle.dash_loopers.specs.Loopers.{LooperKeeps, posters_of, OfItsPasses, TellsPasses, HearsPasses, LooperRest, rest_in, IsLooper}
+use Rattle.dash_loopers.specs.Loopers.{LooperKeeps, posters_of, OfItsPass, LooperTellsPass, LooperHearsPass, LooperRest, rest_in, IsLooper}
 use Rattle.dash_stage.specs.declared.side.Turn.{Turn}
 use Rattle.dash_stage.specs.declared.side.Turn.TheVariants.{All, Main, Others}
 use Rattle.dash_stage.specs.Turns.{has_turn, AwaitTheirTurn, RunsInTurn, HaveRunRound}
@@ -392,10 +392,10 @@ tells_hears place whole x y z t h =
     (thread_then AreKept AreKept AreKept (λ a b c f g. g ∙ f) x y z t.0 h.0, subst (λ (fs : List Pass). PassesHaveHeardAt place whole fs z.kit.frames.items) t.1 h.1)
 
 -- so did a looper
-pub looper_told : (P : Pass → Type 0) (x y : StageLooper) → TellsPasses x y → OfItsPasses P x → OfItsPasses P y
+pub looper_told : (P : Pass → Type 0) (x y : StageLooper) → LooperTellsPass x y → OfItsPass P x → OfItsPass P y
 looper_told P x y t of r is = of r (sym t.1 ∙ is)
 
-pub looper_tells_hears : (whole : List (ℕ × FrameEntry)) (x y z : StageLooper) → TellsPasses x y → HearsPasses whole y z → HearsPasses whole x z
+pub looper_tells_hears : (whole : List (ℕ × FrameEntry)) (x y z : StageLooper) → LooperTellsPass x y → LooperHearsPass whole y z → LooperHearsPass whole x z
 looper_tells_hears whole x y z t h = (looper_then AreKept AreKept AreKept (λ a b c f g. g ∙ f) x y z t.0 h.0, h.1)
 
 -- ==== a stage whose passes hear each other, choreographer after choreographer
@@ -412,19 +412,16 @@ module _ {lockstep : Bool} (s : Script) (st : Stage) (is : IsStageIn lockstep s 
       let within : place < length t.kit.frames.items = omega (arith, near, count, all) in
       (within, λ p. subst (IsPassOf (get_or t.kit.frames.items place p)) (sym at) (pass_at t.number cs t.kit.frames.items are place p c within))
 
-  -- its looper's two passes are of it
-  pub looper_passes : (l : StageLooper) → IsLooper s st.hall l → l.number ≡ place → OfItsPasses (λ p. IsPassOf p c) l
-  looper_passes l is_l number r here =
+  -- its looper's pass is of it
+  pub looper_pass : (l : StageLooper) → IsLooper s st.hall l → l.number ≡ place → OfItsPass (λ p. IsPassOf p c) l
+  looper_pass l is_l number r here =
       let cs = st.hall.choreographers.items in
       let parts = looper_parts s st.hall is.hall l is_l in
       let rest = same_Some _ _ (ap rest_in (sym parts.1) ∙ here) in
       let all = choreographer_count s cs is.hall.choreographers in
       let read : slice_get cs l.number ≡ Some c = ap (slice_get cs) number ∙ slice_get_read cs (length cs) place c refl (omega (arith, near, all)) at in
       let frames = ap (λ (z : LooperRest). frame_badge_of z.frames) (sym rest) ∙ parts.2.frames c read in
-      let client = ap (λ (z : LooperRest). frame_badge_of z.root.pass) (sym rest) ∙ parts.2.client c read in (
-        (ap (λ (b : FrameBadge). b.table) frames, ap (λ (b : FrameBadge). b.constants) frames),
-        (ap (λ (b : FrameBadge). b.table) client, ap (λ (b : FrameBadge). b.constants) client),
-      )
+      (ap (λ (b : FrameBadge). b.table) frames, ap (λ (b : FrameBadge). b.constants) frames)
 
 -- what a pass at one place has heard, where those at another one heard others
 pub heard_elsewhere : (place q : ℕ) (here there : List (ℕ × FrameEntry)) (ps qs : List Pass) → q ≢ place → PassesHaveHeardAt place here ps qs → HaveHeardAllAt q there ps → HaveHeardAllAt q there qs
@@ -465,7 +462,7 @@ each_set R self xs i x y lt is r = record {
 
 -- a stage whose passes of one choreographer heard each other
 pub shares_frames : (place : ℕ) (a b : Stage) (whole : List (ℕ × FrameEntry)) → b.hall ≡ a.hall → AtEach (HearsPass place whole) a.threads.items b.threads.items
-    → (l l' : StageLooper) → place < length a.loopers.items → l ≡ get_or a.loopers.items place l → b.loopers.items ≡ set a.loopers.items place l' → HearsPasses whole l l'
+    → (l l' : StageLooper) → place < length a.loopers.items → l ≡ get_or a.loopers.items place l → b.loopers.items ≡ set a.loopers.items place l' → LooperHearsPass whole l l'
     → (p p' : Pass) → place < length a.controller.kit.frames.items → p ≡ get_or a.controller.kit.frames.items place p → b.controller.kit.frames.items ≡ set a.controller.kit.frames.items place p'
     → PassHasHeard p p' → HasHeardAll whole p' → b.controller.kit.posters.items ≡ a.controller.kit.posters.items → b.controller.kit.pass ≡ a.controller.kit.pass
     → b.controller.sealed ≡ a.controller.sealed → b.controller.sealed_frames ≡ a.controller.sealed_frames → b.pass ≡ a.pass → b.time ≡ a.time → SharesFramesAt place a b
@@ -484,14 +481,14 @@ shares_frames place a b whole hall threads l l' in_loopers is_l loopers hears p 
       heard = whole;
       passes = record {
         threads = λ k d lt. (let long = threads.long in (threads.each k d (omega (arith, lt, long))).1.here);
-        looper = λ d lt. subst (OfItsPasses (HasHeardAll whole)) (sym (ap (λ (ls : List StageLooper). get_or ls place d) loopers ∙ get_or-set_same a.loopers.items place l' d in_loopers)) hears.1;
+        looper = λ d lt. subst (OfItsPass (HasHeardAll whole)) (sym (ap (λ (ls : List StageLooper). get_or ls place d) loopers ∙ get_or-set_same a.loopers.items place l' d in_loopers)) hears.1;
         controller = mine.here;
       };
       elsewhere = λ q there apart were. record {
         threads = λ k d lt. let long = threads.long in let near : k < length a.threads.items = omega (arith, lt, long) in
             heard_elsewhere place q whole there (get_or a.threads.items k d).kit.frames.items (get_or b.threads.items k d).kit.frames.items apart (threads.each k d near).1 (were.threads k d near);
         looper = λ d lt. let long = ap length loopers ∙ length-set a.loopers.items place l' in
-            subst (OfItsPasses (HasHeardAll there)) (sym (ap (λ (ls : List StageLooper). get_or ls q d) loopers ∙ get_or-set_other a.loopers.items place q l' d apart)) (were.looper d (omega (arith, lt, long)));
+            subst (OfItsPass (HasHeardAll there)) (sym (ap (λ (ls : List StageLooper). get_or ls q d) loopers ∙ get_or-set_other a.loopers.items place q l' d apart)) (were.looper d (omega (arith, lt, long)));
         controller = heard_elsewhere place q whole there ps b.controller.kit.frames.items apart mine were.controller;
       };
     }
@@ -501,13 +498,13 @@ shares_frames place a b whole hall threads l l' in_loopers is_l loopers hears p 
 -- a thread's passes
 pub frames_of_thread : (s : Script) (cs : List SharedFrames) (k : ℕ) → k < s.threads → frames_for s cs k ≡ map (frame_badge_for k) cs
 frames_of_thread s cs k lt =
-    ap (λ (b : Bool). if b then map (frame_badge_for k) cs else (if nat_lt k (s.threads + s.loopers) then looper_frames s.threads (slice_get cs (k - s.threads)) else map (frame_badge_for (s.threads + 2)) cs)) (lt-ltb k s.threads lt)
+    ap (λ (b : Bool). if b then map (frame_badge_for k) cs else (if nat_lt k (s.threads + s.loopers) then looper_frames s.threads (slice_get cs (k - s.threads)) else map (frame_badge_for (s.threads + 1)) cs)) (lt-ltb k s.threads lt)
 
 -- the controller's passes
-frames_of_controller : (s : Script) (cs : List SharedFrames) → frames_for s cs (controller s) ≡ map (frame_badge_for (s.threads + 2)) cs
+frames_of_controller : (s : Script) (cs : List SharedFrames) → frames_for s cs (controller s) ≡ map (frame_badge_for (s.threads + 1)) cs
 frames_of_controller s cs =
-    ap (λ (b : Bool). if b then map (frame_badge_for (controller s)) cs else (if nat_lt (controller s) (s.threads + s.loopers) then looper_frames s.threads (slice_get cs (controller s - s.threads)) else map (frame_badge_for (s.threads + 2)) cs)) (le-ltb (controller s) s.threads (omega arith))
-    ∙ ap (λ (b : Bool). if b then looper_frames s.threads (slice_get cs (controller s - s.threads)) else map (frame_badge_for (s.threads + 2)) cs) (le-ltb (controller s) (s.threads + s.loopers) (omega arith))
+    ap (λ (b : Bool). if b then map (frame_badge_for (controller s)) cs else (if nat_lt (controller s) (s.threads + s.loopers) then looper_frames s.threads (slice_get cs (controller s - s.threads)) else map (frame_badge_for (s.threads + 1)) cs)) (le-ltb (controller s) s.threads (omega arith))
+    ∙ ap (λ (b : Bool). if b then looper_frames s.threads (slice_get cs (controller s - s.threads)) else map (frame_badge_for (s.threads + 1)) cs) (le-ltb (controller s) (s.threads + s.loopers) (omega arith))
 
 -- posters that handed nothing out
 pub nothing_handed : (ps : List Sender) → ((q : ℕ) (p : Sender) → q < length ps → (slice_index_or ps q p).view.sealed ≡ []) → parts_handed_out ps ≡ replicate (length ps) []
@@ -558,7 +555,7 @@ module _ (s : Script) (hall : Hall) where
     sealed_frames = nothing_handed_out kit.frames.items frames.items
         (no_frames
         ∙ ap (λ n. replicate n [])
-        (sym (alike_length frame_badge_of (frame_badge_for (s.threads + 2)) kit.frames.items hall.choreographers.items (is.frames ∙ frames_of_controller s hall.choreographers.items) ∙ choreographer_count s hall.choreographers.items h.choreographers)))
+        (sym (alike_length frame_badge_of (frame_badge_for (s.threads + 1)) kit.frames.items hall.choreographers.items (is.frames ∙ frames_of_controller s hall.choreographers.items) ∙ choreographer_count s hall.choreographers.items h.choreographers)))
         unused.handed;
   }
 

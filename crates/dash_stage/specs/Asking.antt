@@ -8,7 +8,7 @@ use Rattle.run_model.specs.AskedSoFar.{HaveAsked, asked_so_far}
 use Rattle.dash_hall.specs.Hearing.{HasHeardAll, HaveHeardAllAt}
 use Rattle.dash_threads.specs.declared.thread.PostingThread.{PostingThread}
 use Rattle.dash_loopers.specs.declared.looper.StageLooper.{StageLooper}
-use Rattle.dash_loopers.specs.Loopers.{OfItsPasses}
+use Rattle.dash_loopers.specs.Loopers.{OfItsPass}
 use Rattle.dash_stage.specs.declared.stage.Stage.{Stage}
 use Rattle.dash_stage.specs.Sharing.{HaveHeardTheSame}
 use Rattle.dash_stage.specs.Timeliness.{AreSound}
@@ -18,7 +18,7 @@ use Rattle.dash_stage.specs.Timeliness.{AreSound}
 pub record IsAskedInTurn (s : Script) (past : List Block) (last q : ℕ) (st : Stage) : Type 0 where
   pub made : List (ℕ × FrameEntry)
   pub threads : (k : ℕ) (d : PostingThread) → k < length st.threads.items → HaveHeardAllAt q made (slice_index_or st.threads.items k d).kit.frames.items
-  pub looper : (d : StageLooper) → q < length st.loopers.items → OfItsPasses (HasHeardAll made) (slice_index_or st.loopers.items q d)
+  pub looper : (d : StageLooper) → q < length st.loopers.items → OfItsPass (HasHeardAll made) (slice_index_or st.loopers.items q d)
   pub asked : HaveAsked last made (asked_so_far s.threads q past made)
 
 -- so it is with each choreographer, where each queue's history is one that it may have

@@ -40,7 +40,7 @@ HaveHandedOut (p ∷ passes) (v ∷ lists) = HasHandedOut p (entries_in v.items)
 -- the choreographers, which look for the pulse that is asked for and hand entries out, record nothing
 pub record IsControllerIn (lockstep : Bool) (s : Script) (hall : Hall) (c : Controller) : Type 0 where
   pub posters : ArePostersOf (controller s) hall.queues.items c.kit.posters.items
-  pub frames : ArePassesOf (s.threads + 2) hall.choreographers.items c.kit.frames.items
+  pub frames : ArePassesOf (s.threads + 1) hall.choreographers.items c.kit.frames.items
   pub pass : c.kit.pass.home ≡ hall.pool
   pub mode : hall.lockstep ≡ lockstep
   pub idle : (q : ℕ) (p : Pass) → q < length c.kit.frames.items → (slice_index_or c.kit.frames.items q p).view.own ≡ []

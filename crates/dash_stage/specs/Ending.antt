@@ -130,16 +130,15 @@ pub record HaveFramesLeft (given_up : ℕ → ℕ) (before after : List Kit) : T
 abbrev pub AreOfNext : Script → ℕ → List Kit → List FrameEntry → Type 0
 AreOfNext s looper kits entries = (d : Kit) (p : Pass) → AreHeard entries (passes_at s looper 0 kits d p)
 
--- the entries begin with what each of this sender's next two passes has seen
+-- the entries begin with what this sender's next pass has seen
 abbrev pub BeginWithOwn : ℕ → List Kit → List FrameEntry → Type 0
-BeginWithOwn sender kits entries = (i : ℕ) (d : Kit) (p : Pass) → i < 2
-    → IsPrefix (slice_index_or (slice_index_or kits sender d).frames.items i p).view.seen entries
+BeginWithOwn sender kits entries = (d : Kit) (p : Pass) → IsPrefix (slice_index_or (slice_index_or kits sender d).frames.items 0 p).view.seen entries
 
 -- all kits have a pass of this pool
 abbrev pub AreOfPool : TableId → List Kit → Type 0
 AreOfPool pool kits = (k : ℕ) (d : Kit) → k < length kits → (slice_index_or kits k d).pass.home ≡ pool
 
--- the entries are parted among the next passes of this looper's choreographer, and begin with what its looper's own two have seen
+-- the entries are parted among the next passes of this looper's choreographer, and begin with what its looper's own has seen
 pub record AreOfNextPasses (s : Script) (looper : ℕ) (kits : List Kit) (entries : List FrameEntry) : Type 0 where
   pub parted : AreOfNext s looper kits entries
   pub own : BeginWithOwn (s.threads + looper) kits entries

@@ -54,10 +54,10 @@ ArePlayed s st =
 abbrev pub HaveBegun : Script → List StageLooper → Type 0
 HaveBegun s ls = (k : ℕ) (d : StageLooper) → k < length ls → StandsBetweenRounds s (slice_index_or ls k d) (first_looper s)
 
--- by a clock each looper stands at a state to which its acts lead, and what it did differs from that at most in what free mode leaves open
+-- by a clock each looper stands at a state to which its acts lead
 abbrev pub EachStandsBetweenLoops : Script → List StageLooper → Type 0
 EachStandsBetweenLoops s ls =
-    (k : ℕ) (d : StageLooper) → k < length ls → (did : LooperState) × (a : LooperState) × StandsBetweenLoops s (slice_index_or ls k d) did a
+    (k : ℕ) (d : StageLooper) → k < length ls → (a : LooperState) × StandsBetweenLoops s (slice_index_or ls k d) a
 
 -- the queue's clock shows this time, or its looper has ended and the queue was disposed of by then
 abbrev pub IsInTime : Script → ℕ → StageLooper → List Entry → Type 0

@@ -41,12 +41,11 @@ abbrev pub HaveAll : List Kit → List QueueRecord → Type 0
 HaveAll kits records = (k q : ℕ) (d : Kit) (p : Sender) (r : QueueRecord) → k < length kits → q < length records
     → HasAllOf k (slice_index_or (slice_index_or kits k d).posters.items q p) (history_of (slice_index_or records q r))
 
--- all passes of a looper's choreographer: each thread's, at this place in its kit, the looper's two, and the controller's, at this place in its kit
+-- all passes of a looper's choreographer: each thread's, at this place in its kit, the looper's, and the controller's, at this place in its kit
 abbrev pub passes_at : Script → ℕ → ℕ → List Kit → Kit → Pass → List Pass
 passes_at s looper place kits d p =
     map (λ thread. slice_index_or (slice_index_or kits thread d).frames.items place p) (range_with_len 0 s.threads)
     ++ slice_index_or (slice_index_or kits (s.threads + looper) d).frames.items 0 p
-    ∷ slice_index_or (slice_index_or kits (s.threads + looper) d).frames.items 1 p
     ∷ slice_index_or (slice_index_or kits (s.threads + s.loopers) d).frames.items place p
     ∷ []
 
@@ -55,10 +54,10 @@ abbrev pub AreAllTheirs : Script → List Kit → List FrameRecord → Type 0
 AreAllTheirs s kits records = (q : ℕ) (d : Kit) (p : Pass) (r : FrameRecord) → q < length records
     → AreHeard (slice_index_or records q r).entries (passes_at s q q kits d p)
 
--- each looper's frame record begins with what each of its two passes has seen
+-- each looper's frame record begins with what its pass has seen
 abbrev pub HaveSeenOwn : ℕ → List Kit → List FrameRecord → Type 0
-HaveSeenOwn threads kits records = (q i : ℕ) (d : Kit) (p : Pass) (r : FrameRecord) → i < 2 → q < length records
-    → IsPrefix (slice_index_or (slice_index_or kits (threads + q) d).frames.items i p).view.seen (slice_index_or records q r).entries
+HaveSeenOwn threads kits records = (q : ℕ) (d : Kit) (p : Pass) (r : FrameRecord) → q < length records
+    → IsPrefix (slice_index_or (slice_index_or kits (threads + q) d).frames.items 0 p).view.seen (slice_index_or records q r).entries
 
 -- each looper has its journal, in order
 abbrev pub AreJournals : Script → List Journal → Type 0

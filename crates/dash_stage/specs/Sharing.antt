@@ -16,7 +16,7 @@ use Rattle.dash_stage.specs.Stages.{IsStage}
 use Rattle.dash_hall.specs.Hearing.{seen_by, AtEach, HasHeard, HaveHeard, HaveHeardAt, HaveSeenAll, AreKept, AreReady, AreKnown}
 use Rattle.dash_hall.specs.Hearing.{PassHasHeard, PassesHaveHeard, HasHeardAll, HaveHeardAllAt, ArePassesReady, ArePassesKnown}
 use Rattle.dash_threads.specs.Threads.{ThreadKeeps, TellsPass, HearsPass}
-use Rattle.dash_loopers.specs.Loopers.{posters_of, LooperKeeps, OfItsPasses, HearsPasses, IsWithin}
+use Rattle.dash_loopers.specs.Loopers.{posters_of, LooperKeeps, OfItsPass, LooperHearsPass, IsWithin}
 
 -- the controller's posters before and after are so, its passes are as before or heard others, and all else of it is as before
 pub record ControllerKeeps (R : List Sender → List Sender → Type 0) (before after : Controller) : Type 0 where
@@ -47,9 +47,9 @@ OfPasses P ts = (k : ℕ) (d : PostingThread) → k < length ts → P (slice_ind
 abbrev pub AreUnheard : List Pass → Type 0
 AreUnheard passes = (q : ℕ) (p : Pass) → q < length passes → HasHeardAll [] (slice_index_or passes q p)
 
--- so it is with the two passes of each looper
+-- so it is with the pass of each looper
 abbrev pub HaveHeardNothing : List StageLooper → Type 0
-HaveHeardNothing ls = (k : ℕ) (d : StageLooper) → k < length ls → OfItsPasses (HasHeardAll []) (slice_index_or ls k d)
+HaveHeardNothing ls = (k : ℕ) (d : StageLooper) → k < length ls → OfItsPass (HasHeardAll []) (slice_index_or ls k d)
 
 -- this holds of the posters of each looper
 abbrev pub OfLoopers : (List Sender → Type 0) → List StageLooper → Type 0
@@ -61,10 +61,10 @@ pub record OfSenders (P : List Sender → Type 0) (st : Stage) : Type 0 where
   pub loopers : OfLoopers P st.loopers.items
   pub controller : P st.controller.kit.posters.items
 
--- the passes of the choreographer at this place have heard this: the threads', its looper's two and the controller's
+-- the passes of the choreographer at this place have heard this: the threads', its looper's and the controller's
 pub record HavePassesHeard (place : ℕ) (whole : List (ℕ × FrameEntry)) (st : Stage) : Type 0 where
   pub threads : (k : ℕ) (d : PostingThread) → k < length st.threads.items → HaveHeardAllAt place whole (slice_index_or st.threads.items k d).kit.frames.items
-  pub looper : (d : StageLooper) → place < length st.loopers.items → OfItsPasses (HasHeardAll whole) (slice_index_or st.loopers.items place d)
+  pub looper : (d : StageLooper) → place < length st.loopers.items → OfItsPass (HasHeardAll whole) (slice_index_or st.loopers.items place d)
   pub controller : HaveHeardAllAt place whole st.controller.kit.frames.items
 
 -- what passes of the other choreographers have heard is as before
@@ -165,12 +165,12 @@ pub record HaveToldPass (place : ℕ) (ts ts' : List PostingThread) (other other
 pub record CanSharePasses (place : ℕ) (c : SharedFrames) (ts : List PostingThread) (l : StageLooper) (p : Pass) : Type 0 where
   pub threads : OfPasses (ArePassesReady place c) ts
   pub parts : IsSome l.parts
-  pub looper : OfItsPasses (λ q. IsPassOf q c) l
+  pub looper : OfItsPass (λ q. IsPassOf q c) l
   pub pass : IsPassOf p c
 
 -- they have heard the same: who recorded each entry that one of them has seen
 pub record HaveSharedPasses (place : ℕ) (ts ts' : List PostingThread) (l l' : StageLooper) (p p' : Pass) : Type 0 where
   pub threads : AtEach (HearsPass place p'.view.heard) ts ts'
-  pub looper : HearsPasses p'.view.heard l l'
+  pub looper : LooperHearsPass p'.view.heard l l'
   pub pass : PassHasHeard p p'
   pub who : HasHeardWho p'

@@ -141,7 +141,7 @@ fn frame_record(
     ensures kits { OnOk result (HaveFramesLeft (λ k. length (given_of script.now looper choreographer k)) kits.old.items kits.new.items) }
 {
     let mut passes = Vec::new(alloc);
-    for number in 0..script.threads + 3 {
+    for number in 0..script.threads + 2 {
         passes.push(kits[holder(script, looper, number)].next_pass())?;
     }
     choreographer.into_whole(passes, parts)

@@ -120,7 +120,7 @@ fn share_by(
     loopers_hear(queue, place, loopers, poster);
 }
 
-/// This pass of a choreographer hears those of all threads and the two of its looper, and then they hear it.
+/// This pass of a choreographer hears those of all threads and the one of its looper, and then they hear it.
 fn share_passes(
     choreographer: &Choreographer,
     place: usize,
@@ -131,14 +131,14 @@ fn share_passes(
     requires { CanSharePasses place choreographer.now threads.old looper.old pass.old }
     ensures { HaveSharedPasses place threads.old threads.new looper.old looper.new pass.old pass.new }
 {
-    threads_tell_passes(choreographer, place, threads, pass);
-    looper.tell_passes(choreographer, pass);
-    threads_hear_passes(choreographer, place, threads, pass);
-    looper.hear_passes(choreographer, pass);
+    threads_tell_pass(choreographer, place, threads, pass);
+    looper.tell_pass(choreographer, pass);
+    threads_hear_pass(choreographer, place, threads, pass);
+    looper.hear_pass(choreographer, pass);
 }
 
 /// Another pass of the choreographer hears those of the threads.
-fn threads_tell_passes(
+fn threads_tell_pass(
     choreographer: &Choreographer,
     place: usize,
     threads: &mut [PostingThread],
@@ -153,7 +153,7 @@ fn threads_tell_passes(
 }
 
 /// The threads' passes of the choreographer hear another one, which has heard all that they have.
-fn threads_hear_passes(
+fn threads_hear_pass(
     choreographer: &Choreographer,
     place: usize,
     threads: &mut [PostingThread],

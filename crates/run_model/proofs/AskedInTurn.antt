@@ -16,8 +16,8 @@ use Rattle.dash_script.specs.declared.script.Line.{Line}
 use Rattle.dash_script.specs.declared.script.Block.{Block}
 use Rattle.dash_script.specs.declared.script.Script.{Script}
 use Rattle.run_model.specs.Planned.{TimedCommand, lines_of, frame_due}
-use Rattle.run_model.specs.Parts.{lines_in, asks_to_run}
-use Rattle.run_model.specs.FrameRecords.{FrameAt, nanos_of, FrameAsk, Posts, Removes, Runs, asked_in, asks_in, line_asks, as_told, TimedAsk, in_block, in_round}
+use Rattle.run_model.specs.Parts.{lines_in}
+use Rattle.run_model.specs.FrameRecords.{nanos_of, FrameAsk, Posts, Removes, Begins, Takes, asked_in, asks_in, line_asks, as_told, TimedAsk, in_block, in_round}
 use Rattle.run_model.specs.FrameRecords.{lines_ask_then, asked_for, asked_in_rounds, timed_as_told, AreAskedInTurn}
 use Rattle.run_model.specs.Loopers.{LooperState, asked_then}
 use Rattle.run_model.specs.AskedSoFar.{lines_ask, Rise, second, timed_of, asks_of, HaveAsked, asked_so_far}
@@ -187,7 +187,8 @@ more_asked last when made more by gets h later grown at =
 told_itself : (a : FrameAsk) → as_told true a ≡ a
 told_itself (Posts phase due id token) = refl
 told_itself (Removes phase id token) = refl
-told_itself (Runs start) = refl
+told_itself (Begins start) = refl
+told_itself (Takes phase moment) = refl
 
 timed_itself : (x : TimedAsk) → timed_as_told true x ≡ x
 timed_itself x = λ i. record { when = x.when; ask = told_itself x.ask i }
@@ -267,20 +268,15 @@ rounds_then : (time : ℕ) (asks : List FrameAsk) → AllByRecursion (λ (a : Fr
 rounds_then time [] at = tt
 rounds_then time (a ∷ asks) at = (ap in_round at.0, rounds_then time asks at.1)
 
--- what is asked for at once at a time is for that time, as far as the nanoseconds of 64 bits go: a frame, and a callback without delay
-pub starts_at_once : (time : ℕ) → time ≤ 18446744073709 → asked_for (Runs (nanos_of time)) ≡ time
-starts_at_once time le =
+-- what is asked for at once at a time is for that time, as far as the nanoseconds of 64 bits go: a frame and its phases, and a callback without delay
+pub nanos_at_once : (time : ℕ) → time ≤ 18446744073709 → nanos_of time / 1000000 ≡ time
+nanos_at_once time le =
     let some : 0 < 1000000 = omega arith in
     let near : nanos_of time ≡ time * 1000000 = omega (arith, le) in
     ap (λ (n : ℕ). n / 1000000) near ∙ mul-div_cancel time some
 
 pub due_at_once : (time : ℕ) → time ≤ 18446744073709 → frame_due time 0 ≡ time
 due_at_once time le = omega (arith, le)
-
-pub frames_at_once : (time : ℕ) → time ≤ 18446744073709 → (xs : List FrameAt) → AllByRecursion (λ (x : FrameAt). x.now ≡ time) xs
-    → AllByRecursion (λ (a : FrameAsk). asked_for a ≡ time) (asks_to_run xs)
-frames_at_once time le [] at = tt
-frames_at_once time le (x ∷ xs) at = (ap (λ (n : ℕ). asked_for (Runs (nanos_of n))) at.0 ∙ starts_at_once time le, frames_at_once time le xs at.1)
 
 -- one block more of a thread's lines
 lines_more : (k : ℕ) (past : List Block) (b : Block) → lines_of k (past ++ b ∷ []) ≡ lines_of k past ++ lines_in k b
@@ -413,30 +409,29 @@ part_behind f rest a zero k le = ap (λ m. slice_index_or rest m []) (omega arit
 part_behind f rest a (suc n) zero le = absurd (omega (arith, le))
 part_behind f rest a (suc n) (suc k) le = part_behind f rest (a + 1) n k (omega (arith, le)) ∙ ap (λ m. slice_index_or rest m []) (omega arith)
 
--- two parts, and none behind them
-part_of_two : {X : Type 0} (x y : List X) (P : ℕ → List X) → P 0 ≡ x → P 1 ≡ y → ((k : ℕ) → 2 ≤ k → P k ≡ []) → (k : ℕ) → P k ≡ slice_index_or (x ∷ y ∷ []) k []
-part_of_two x y P first other none zero = first
-part_of_two x y P first other none (suc zero) = other
-part_of_two x y P first other none (suc (suc k)) = none (suc (suc k)) (omega arith)
+-- one part, and none behind it
+part_of_one : {X : Type 0} (x : List X) (P : ℕ → List X) → P 0 ≡ x → ((k : ℕ) → 1 ≤ k → P k ≡ []) → (k : ℕ) → P k ≡ slice_index_or (x ∷ []) k []
+part_of_one x P first none zero = first
+part_of_one x P first none (suc k) = none (suc k) (omega arith)
 
--- behind the whole script: what was recorded is asked in turn by the threads and the looper, whose frames are those and whose posts are those of what it has come to
+-- behind the whole script: what was recorded is asked in turn by the threads and the looper, which asked for what it was to by what it has come to
 pub all_asked : (s : Script) (q last : ℕ) (made : List (ℕ × FrameEntry)) (a : LooperState) → HaveAsked last made (asked_so_far s.threads q s.blocks made)
-    → asks_in (dealt_to s.threads made) ≡ asks_to_run a.frames → asks_in (dealt_to (s.threads + 1) made) ≡ a.posted → ((k : ℕ) → s.threads + 2 ≤ k → dealt_to k made ≡ [])
+    → asks_in (dealt_to s.threads made) ≡ a.asked → ((k : ℕ) → s.threads + 1 ≤ k → dealt_to k made ≡ [])
     → AreAskedInTurn true (asks_in (second made)) (asked_then s q a)
-all_asked s q last made a h ran posted idle = asked_in_turn last made (asked_so_far s.threads q s.blocks made) h (asked_then s q a) same
+all_asked s q last made a h asked idle = asked_in_turn last made (asked_so_far s.threads q s.blocks made) h (asked_then s q a) same
   where
     of_line : ℕ → List TimedAsk
     of_line k = lines_ask_then q (lines_of k s.blocks)
 
     mine : List (List TimedAsk)
-    mine = asked_in_rounds (asks_to_run a.frames) ∷ asked_in_rounds a.posted ∷ []
+    mine = asked_in_rounds a.asked ∷ []
 
     other : ℕ → List TimedAsk
     other k = asked_in_rounds (asks_in (dealt_to (s.threads + k) made))
 
     others : (k : ℕ) → other k ≡ slice_index_or mine k []
-    others k = part_of_two (asked_in_rounds (asks_to_run a.frames)) (asked_in_rounds a.posted) other
-        (ap (λ n. asked_in_rounds (asks_in (dealt_to n made))) (omega arith) ∙ ap asked_in_rounds ran) (ap asked_in_rounds posted)
+    others k = part_of_one (asked_in_rounds a.asked) other
+        (ap (λ n. asked_in_rounds (asks_in (dealt_to n made))) (omega arith) ∙ ap asked_in_rounds asked)
         (λ j le. ap (λ l. asked_in_rounds (asks_in l)) (idle (s.threads + j) (omega (arith, le)))) k
 
     same : (k : ℕ) → asked_so_far s.threads q s.blocks made k ≡ slice_index_or (asked_then s q a) k []
@@ -449,11 +444,11 @@ all_asked s q last made a h ran posted idle = asked_in_turn last made (asked_so_
 
 -- what each asks of a looper's choreographer, without its times
 abbrev pub asked_of : Script → ℕ → LooperState → List (List FrameAsk)
-asked_of s q final = map (λ thread. lines_ask q (lines_of thread s.blocks)) (range_with_len 0 s.threads) ++ asks_to_run final.frames ∷ final.posted ∷ []
+asked_of s q final = map (λ thread. lines_ask q (lines_of thread s.blocks)) (range_with_len 0 s.threads) ++ final.asked ∷ []
 
 pub then_asks : (s : Script) (q : ℕ) (a : LooperState) → map asks_of (asked_then s q a) ≡ asked_of s q a
 then_asks s q a =
-    map-append asks_of (map (λ k. lines_ask_then q (lines_of k s.blocks)) (range_with_len 0 s.threads)) (asked_in_rounds (asks_to_run a.frames) ∷ asked_in_rounds a.posted ∷ [])
+    map-append asks_of (map (λ k. lines_ask_then q (lines_of k s.blocks)) (range_with_len 0 s.threads)) (asked_in_rounds a.asked ∷ [])
     ∙ (λ i. (map_both (λ k. lines_ask_then q (lines_of k s.blocks)) asks_of (range_with_len 0 s.threads)
     ∙ map_same (λ k. asks_of (lines_ask_then q (lines_of k s.blocks))) (λ k. lines_ask q (lines_of k s.blocks)) (λ k. lines_then_asks q (lines_of k s.blocks)) (range_with_len 0 s.threads)) i
-    ++ rounds_asks (asks_to_run a.frames) i ∷ rounds_asks a.posted i ∷ [])
+    ++ rounds_asks a.asked i ∷ [])

@@ -123,8 +123,6 @@ looper_run = record {
   calls = ((record { call = refl; reply = refl }, (record { call = refl; reply = refl }, tt)), tt);
   asked = record { timed = []; asks_are = refl; in_turn = rising_sorted 0 [] tt; parted = ([], refl, none_asked) };
   on_time = tt;
-  whole = refl;
-  moments = tt;
   pulses = tt;
   pulses_first = tt;
 }

@@ -1,7 +1,6 @@
 -- Reports that are no runs of their script: the frames, pulses and callbacks of a gauge, with one fault.
-use Rattle.std.proofs.Common.{◌≡◌, ℕ, refl, true, false, List, [], ◌∷◌, ◌++◌, Some, None, sym, ap, ◌∙◌}
-use Rattle.std.specs.Prelude.{Bool, ◌&&◌}
-use Rattle.std.proofs.lemmas.Bool.{and_from}
+use Rattle.std.proofs.Common.{◌≡◌, ℕ, refl, true, false, List, [], ◌∷◌, ◌++◌, Some, None, ap}
+use Rattle.std.specs.Prelude.{Bool}
 use Rattle.loop_model.specs.declared.call.Call.TheVariants as call
 use Rattle.loop_model.specs.declared.reply.Reply.TheVariants as reply
 use Rattle.loop_model.specs.declared.entry.Entry.{Entry}
@@ -13,12 +12,10 @@ use Rattle.dash_script.specs.declared.script.Command.TheVariants as command
 use Rattle.dash_script.specs.declared.script.Script.{Script}
 use Rattle.run_model.specs.Moments.{in_lockstep}
 use Rattle.run_model.specs.Loopers.{LooperState, first_looper}
-use Rattle.run_model.specs.FrameRecords.{are_run_then, are_whole}
 use Rattle.run_model.specs.Run.{IsRun}
 use Rattle.run_model.proofs.Examples.{entry, handler_on, block, by, plain_script, message, frame_message, callback}
-use Rattle.run_model.proofs.RunBut.{Clause}
 use Rattle.run_model.proofs.RunBut as but
-use Rattle.run_model.proofs.Led.{any_led, led_passes}
+use Rattle.run_model.proofs.Led.{led_passes}
 use Rattle.run_model.proofs.NotRunsFrames.{told_by_run}
 use Rattle.run_model.proofs.Table.{Row, acting, report_of, computing}
 use Rattle.run_model.proofs.OneFault.{FailsBy, fails_by}
@@ -66,32 +63,17 @@ last_phase = frame.Take 3 17000000 16666667 ∷ []
 abbrev gauge_rows : List FrameEntry → List Row
 gauge_rows fs = frame_rows gauge_entries gauge_acts fs
 
--- the frame of this record is whole, and starts and takes its phases at the times of its dispatch
-abbrev runs_whole : List FrameEntry → LooperState → Bool
-runs_whole fs b = are_whole 4 fs b.frames && are_run_then fs b.frames
-
-abbrev may_run_whole : List FrameEntry → Bool
-may_run_whole fs = any_led (runs_whole fs) (gauge_script 20) 0 gauge_entries fs (first_looper (gauge_script 20)) gauge_acts
-
-no_gauge_run : (fs : List FrameEntry) → may_run_whole fs ≡ false → IsRun in_lockstep (gauge_script 20) (report_of (gauge_script 20) (gauge_rows fs)) → ⊥
-no_gauge_run fs fails r =
-    let l = r.loopers.0 in
-    let whole = and_from (are_whole 4 fs l.final.frames) (are_run_then fs l.final.frames) l.whole l.moments in
-    let wrong : false ≡ true = sym fails ∙ led_passes (runs_whole fs) (gauge_script 20) 0 gauge_entries fs (first_looper (gauge_script 20)) gauge_acts l.final l.acts whole in
-    cc
-
 -- a gauge's run, with these moments and phases of its frame
-abbrev gauge_frame_fault : Clause → ℕ → ℕ → List FrameEntry → Type 0
-gauge_frame_fault clause start taken behind = FailsBy clause (gauge_script 20) (gauge_rows (gauge_frames start taken behind))
+abbrev gauge_frame_fault : ℕ → ℕ → List FrameEntry → Type 0
+gauge_frame_fault start taken behind = FailsBy but.Asked (gauge_script 20) (gauge_rows (gauge_frames start taken behind))
 
 -- a frame starts half a millisecond behind its dispatch; one takes its first phase so much behind it; and the last one ends behind its third phase of four
-pub wrong_frames_fail :
-    gauge_frame_fault but.Starts 17500000 17000000 last_phase × gauge_frame_fault but.Moments 17000000 17500000 last_phase × gauge_frame_fault but.Whole 17000000 17000000 []
+pub wrong_frames_fail : gauge_frame_fault 17500000 17000000 last_phase × gauge_frame_fault 17000000 17500000 last_phase × gauge_frame_fault 17000000 17000000 []
 unfolding computing
 wrong_frames_fail = (
-  fails_by but.Starts (gauge_script 20) (gauge_rows (gauge_frames 17500000 17000000 last_phase)) (no_gauge_run (gauge_frames 17500000 17000000 last_phase) refl) refl,
-  fails_by but.Moments (gauge_script 20) (gauge_rows (gauge_frames 17000000 17500000 last_phase)) (no_gauge_run (gauge_frames 17000000 17500000 last_phase) refl) refl,
-  fails_by but.Whole (gauge_script 20) (gauge_rows (gauge_frames 17000000 17000000 [])) (no_gauge_run (gauge_frames 17000000 17000000 []) refl) refl,
+  fails_by but.Asked (gauge_script 20) (gauge_rows (gauge_frames 17500000 17000000 last_phase)) (λ r. let wrong : false ≡ true = told_by_run (gauge_script 20) (gauge_rows (gauge_frames 17500000 17000000 last_phase)) r in cc) refl,
+  fails_by but.Asked (gauge_script 20) (gauge_rows (gauge_frames 17000000 17500000 last_phase)) (λ r. let wrong : false ≡ true = told_by_run (gauge_script 20) (gauge_rows (gauge_frames 17000000 17500000 last_phase)) r in cc) refl,
+  fails_by but.Asked (gauge_script 20) (gauge_rows (gauge_frames 17000000 17000000 [])) (λ r. let wrong : false ≡ true = told_by_run (gauge_script 20) (gauge_rows (gauge_frames 17000000 17000000 [])) r in cc) refl,
 )
 
 abbrev pulse_entries : List Entry

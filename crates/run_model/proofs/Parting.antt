@@ -7,7 +7,7 @@ use Rattle.std.proofs.lemmas.Bool.{and_parts, and_from, or_cases, eqb-true, leb-
 use mathlib.Core.Logic.{dite}
 use native.Mathlib.Decide.{ℕ_discrete}
 use Rattle.frame_phases.specs.Parting.{dealt_to}
-use Rattle.run_model.specs.FrameRecords.{FrameAsk, Posts, Removes, Runs, as_told, TimedAsk, timed_as_told, AreAskedInTurn}
+use Rattle.run_model.specs.FrameRecords.{FrameAsk, Posts, Removes, Begins, Takes, as_told, TimedAsk, timed_as_told, AreAskedInTurn}
 use Rattle.run_model.specs.AskedSoFar.{Rise, asks_of, timed_of}
 use Rattle.run_model.proofs.AskedInTurn.{rising_sorted, sorted_rising}
 
@@ -19,14 +19,13 @@ same_token (Some n) (Some m) = n == m
 
 abbrev pub same_ask : FrameAsk → FrameAsk → Bool
 same_ask (Posts p d i t) (Posts q e j u) = p == q && d == e && i == j && same_token t u
-same_ask (Posts p d i t) (Removes q j u) = false
-same_ask (Posts p d i t) (Runs n) = false
-same_ask (Removes p i t) (Posts q e j u) = false
+same_ask (Posts p d i t) _ = false
 same_ask (Removes p i t) (Removes q j u) = p == q && i == j && same_token t u
-same_ask (Removes p i t) (Runs n) = false
-same_ask (Runs n) (Posts q e j u) = false
-same_ask (Runs n) (Removes q j u) = false
-same_ask (Runs n) (Runs m) = n == m
+same_ask (Removes p i t) _ = false
+same_ask (Begins n) (Begins m) = n == m
+same_ask (Begins n) _ = false
+same_ask (Takes p n) (Takes q m) = p == q && n == m
+same_ask (Takes p n) _ = false
 
 token_same : (t u : Option ℕ) → same_token t u ≡ true → t ≡ u
 token_same None None h = refl
@@ -41,23 +40,31 @@ ask_same (Posts p d i t) (Posts q e j u) h =
     let one = and_parts (p == q) (d == e) two.0 in
     λ k. Posts (eqb-true p q one.0 k) (eqb-true d e one.1 k) (eqb-true i j two.1 k) (token_same t u three.1 k)
 ask_same (Posts p d i t) (Removes q j u) h = cc
-ask_same (Posts p d i t) (Runs n) h = cc
+ask_same (Posts p d i t) (Begins m) h = cc
+ask_same (Posts p d i t) (Takes q m) h = cc
 ask_same (Removes p i t) (Posts q e j u) h = cc
 ask_same (Removes p i t) (Removes q j u) h =
     let two = and_parts (p == q && i == j) (same_token t u) h in
     let one = and_parts (p == q) (i == j) two.0 in
     λ k. Removes (eqb-true p q one.0 k) (eqb-true i j one.1 k) (token_same t u two.1 k)
-ask_same (Removes p i t) (Runs n) h = cc
-ask_same (Runs n) (Posts q e j u) h = cc
-ask_same (Runs n) (Removes q j u) h = cc
-ask_same (Runs n) (Runs m) h = ap Runs (eqb-true n m h)
+ask_same (Removes p i t) (Begins m) h = cc
+ask_same (Removes p i t) (Takes q m) h = cc
+ask_same (Begins n) (Posts q e j u) h = cc
+ask_same (Begins n) (Removes q j u) h = cc
+ask_same (Begins n) (Begins m) h = ap Begins (eqb-true n m h)
+ask_same (Begins n) (Takes q m) h = cc
+ask_same (Takes p n) (Posts q e j u) h = cc
+ask_same (Takes p n) (Removes q j u) h = cc
+ask_same (Takes p n) (Begins m) h = cc
+ask_same (Takes p n) (Takes q m) h = let both = and_parts (p == q) (n == m) h in λ k. Takes (eqb-true p q both.0 k) (eqb-true n m both.1 k)
 
 same_self : (a : FrameAsk) → same_ask a a ≡ true
 same_self (Posts p d i None) = rw (eq-eqb p p refl, eq-eqb d d refl, eq-eqb i i refl) refl
 same_self (Posts p d i (Some t)) = rw (eq-eqb p p refl, eq-eqb d d refl, eq-eqb i i refl, eq-eqb t t refl) refl
 same_self (Removes p i None) = rw (eq-eqb p p refl, eq-eqb i i refl) refl
 same_self (Removes p i (Some t)) = rw (eq-eqb p p refl, eq-eqb i i refl, eq-eqb t t refl) refl
-same_self (Runs n) = eq-eqb n n refl
+same_self (Begins n) = eq-eqb n n refl
+same_self (Takes p n) = rw (eq-eqb p p refl, eq-eqb n n refl) refl
 
 -- an ask of a sender that is dealt, and what is left of the parts
 pub record Way : Type 0 where

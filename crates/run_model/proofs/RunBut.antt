@@ -22,7 +22,7 @@ use Rattle.run_model.specs.Planned.{history_of, AreFor, entries_by, looper_sende
 use Rattle.run_model.specs.Moments.{in_lockstep}
 use Rattle.run_model.specs.Control.{is_called_in_time, are_before_quit, befores, are_on_time, Move, moves, move_times, main_moves, MayMoveTo}
 use Rattle.run_model.specs.Loopers.{LooperState, first_looper, MayCome, after_act, ActsLead, IsSent, asked_then, has_frames, pulses_come_first}
-use Rattle.run_model.specs.FrameRecords.{are_run_then, are_whole, asks_in, TimedAsk, AreAskedInTurn}
+use Rattle.run_model.specs.FrameRecords.{asks_in, TimedAsk, AreAskedInTurn}
 use Rattle.run_model.specs.Run.{IsReportOf, AreRecordsOf, IsAsPlanned, IsControlled, IsFrameRun, caused_on, IsLooperRun, EachLooper, are_in_order, IsTimely, main_ends_halted, IsRun}
 use Rattle.run_model.specs.Parts.{all_entries, IsThreadOnTime, IsBeforeQuit}
 
@@ -36,12 +36,6 @@ pub data Clause : Type 0 where
   InTurn : Clause
   -- each frame has the stamp of a pulse, the latest one, of which this is the stamp
   Stamps : ℕ → Clause
-  -- frames are whole
-  Whole : Clause
-  -- frames start and take their phases at the times of their dispatches
-  Moments : Clause
-  -- the same, and their starts are as asked
-  Starts : Clause
   -- pulses come at multiples of the period, and the frames' stamps are theirs
   Pulses : Clause
   -- a looper's calls are on time
@@ -85,9 +79,6 @@ abbrev pub number_of : Clause → ℕ
 number_of Nothing = 0
 number_of Asked = 1
 number_of (Stamps stamp) = 2
-number_of Whole = 3
-number_of Moments = 4
-number_of Starts = 5
 number_of Pulses = 6
 number_of OnTime = 7
 number_of Takes = 8
@@ -182,10 +173,8 @@ pub record IsLooperRunBut (out : Clause) (s : Script) (queues : List QueueRecord
   pub dispatches : Unless out Takes (filter_map act_dispatch j.acts ≡ filter_map (λ e. call_dispatch e.call e.reply) (entries_by (looper_sender s q.looper) (history_of q)))
   pub disposed_at : ℕ
   pub calls : Unless out Takes (AllByRecursion (λ (r : QueueRecord). AreFor IsSent [] (caused_on r.looper final q.looper disposed_at) (entries_by (looper_sender s q.looper) (history_of r))) queues)
-  pub asked : Unless out Asked (Unless out Starts (AreAskedInTurn true (asks_in f.entries) (made_but out (asked_then s q.looper final))))
-  pub whole : Unless out Whole (are_whole f.phases f.entries final.frames ≡ true)
+  pub asked : Unless out Asked (AreAskedInTurn true (asks_in f.entries) (made_but out (asked_then s q.looper final)))
   pub on_time : Unless out OnTime (Unless out Takes (AllByRecursion (λ (r : QueueRecord). are_on_time (map (λ x. x.timing) (caused_on r.looper final q.looper disposed_at)) (befores (looper_sender s q.looper) (history_of r)) ≡ true) queues))
-  pub moments : Unless out Moments (Unless out Starts (are_run_then f.entries final.frames ≡ true))
   pub pulses : Unless out Framed (Unless out Awaited (has_frames j.acts final ≡ true))
   pub pulses_first : Unless out First (Unless out Rising (pulses_come_first j.acts ≡ true))
 
@@ -249,9 +238,7 @@ is_run s r h = record {
     disposed_at = x.disposed_at;
     calls = x.calls;
     asked = x.asked;
-    whole = x.whole;
     on_time = x.on_time;
-    moments = x.moments;
     pulses = x.pulses;
     pulses_first = x.pulses_first;
   }) r.queues r.journals r.frames h.loopers;

@@ -35,7 +35,7 @@ use Rattle.run_model.specs.Planned.{history_of, AreFor, bare_call, call_of, toke
 use Rattle.run_model.specs.Moments.{in_lockstep}
 use Rattle.run_model.specs.Control.{InBlock, is_controlled, is_called_in_time, are_before_quit, befores, are_on_time, Move, moves, move_times, main_moves, is_planned_time, was_due_at, MayMoveTo}
 use Rattle.run_model.specs.Loopers.{LooperState, SentCall, first_looper, starts_frame, IsSent, MayCome, after_act, dispatched, asked_then, has_frames, pulses_come_first}
-use Rattle.run_model.specs.FrameRecords.{millis_up, is_frame_from, has_stamp, was_wanted, are_run_then, are_whole, asks_in}
+use Rattle.run_model.specs.FrameRecords.{millis_up, is_frame_from, has_stamp, was_wanted, asks_in}
 use Rattle.run_model.specs.Run.{IsRun, IsRecordOf, IsAsPlanned, IsControlled, EachLooper, record_setting, caused_on, are_in_order, main_ends_halted}
 use Rattle.run_model.specs.Parts.{all_entries}
 use Rattle.run_model.specs.Text.{report_text, report_lines}
@@ -43,7 +43,7 @@ use Rattle.run_model.proofs.Below.{EachBelow, each_below}
 use Rattle.run_model.proofs.Parting.{can_ask_in_turn, asks_are_in_turn}
 use Rattle.run_model.proofs.ByTests.{answers, replies, are_timely, are_numbered, history_by, planned_calls, made_calls, thread_lines, MakesThem, calls_by}
 use Rattle.run_model.proofs.Examples.{queue, journal, page, handler_on, plain_script}
-use Rattle.run_model.proofs.RunBut.{Clause, Nothing, Asked, Stamps, Whole, Moments, Starts, Pulses, OnTime, Takes, Controls, BeforeQuit, Threads, Order, Blocks, Due, Together, Rising, Awaited, Framed, First, Lawful, Settled, Controlled, Halted, number_of, Unless, with_pulses, with_stamps, made_but, before_act, entries_for_act, LeadBut, IsFrameRunBut, IsLooperRunBut, IsTimelyBut, IsRunBut}
+use Rattle.run_model.proofs.RunBut.{Clause, Nothing, Asked, Stamps, Pulses, OnTime, Takes, Controls, BeforeQuit, Threads, Order, Blocks, Due, Together, Rising, Awaited, Framed, First, Lawful, Settled, Controlled, Halted, number_of, Unless, with_pulses, with_stamps, made_but, before_act, entries_for_act, LeadBut, IsFrameRunBut, IsLooperRunBut, IsTimelyBut, IsRunBut}
 use Rattle.run_model.proofs.RunBut as but
 
 -- ---- a report as data
@@ -294,9 +294,7 @@ pub record LooperTest : Type 0 where
   pub calls : List (List (Option Entry))
   pub stamps : Bool
   pub asked : Bool
-  pub whole : Bool
   pub on_time : Bool
-  pub moments : Bool
   pub pulses : Bool
   pub pulses_first : Bool
   pub controls : Bool
@@ -332,10 +330,8 @@ found_in out s queues n row =
       dispatches = kept out Takes (filter_map act_dispatch row.acts);
       calls = kept out Takes (map (λ r. entries_for [] (caused_by out s n row r) (entries_there s n r)) queues);
       stamps = unless out (Stamps 0) (unless out Pulses (are_stamped s.period row.frames));
-      asked = unless out Asked (unless out Starts (can_ask_in_turn (asks_in row.frames) (made_but out (asked_then s n final))));
-      whole = unless out Whole (are_whole (phase_count s.edition) row.frames final.frames);
+      asked = unless out Asked (can_ask_in_turn (asks_in row.frames) (made_but out (asked_then s n final)));
       on_time = unless out OnTime (unless out Takes (list_all (λ r. are_on_time (map (λ x. x.timing) (caused_by out s n row r)) (befores (looper_sender s n) (history_of r))) queues));
-      moments = unless out Moments (unless out Starts (are_run_then row.frames final.frames));
       pulses = unless out Framed (unless out Awaited (has_frames row.acts final));
       pulses_first = unless out First (unless out Rising (pulses_come_first row.acts));
       controls = unless out Controls (is_called_in_time (controller s) es);
@@ -362,9 +358,7 @@ wanted_in out s queues n row =
       calls = kept out Takes (map (λ r. map plain_entry (entries_there s n r)) queues);
       stamps = true;
       asked = true;
-      whole = true;
       on_time = true;
-      moments = true;
       pulses = true;
       pulses_first = true;
       controls = true;
@@ -413,13 +407,11 @@ looper_of out s queues n row e =
         calls = kept_same (number_of out == number_of Takes) (map (λ r. entries_for [] (caused_by out s n row r) (entries_there s n r)) queues) (map (λ r. map plain_entry (entries_there s n r)) queues) _
             (λ same. all_same (λ (r : QueueRecord). AreFor IsSent [] (caused_by out s n row r) (entries_there s n r)) (λ r. entries_for [] (caused_by out s n row r) (entries_there s n r)) (λ r. map plain_entry (entries_there s n r))
             (λ r one. sent_by_table [] (caused_by out s n row r) (entries_there s n r) one) queues same) (ap (λ (t : LooperTest). t.calls) e);
-        asked = both_left (number_of out == number_of Asked) (number_of out == number_of Starts) _ _
+        asked = unless_true (number_of out == number_of Asked) _ _
             (λ h. asks_are_in_turn (asks_in row.frames) (made_but out (asked_then s n final)) h) (ap (λ (t : LooperTest). t.asked) e);
-        whole = unless_true (number_of out == number_of Whole) _ _ (λ h. h) (ap (λ (t : LooperTest). t.whole) e);
         on_time = both_left (number_of out == number_of OnTime) (number_of out == number_of Takes) _ _
             (λ h. all_by (λ (r : QueueRecord). are_on_time (map (λ x. x.timing) (caused_by out s n row r)) (befores (looper_sender s n) (history_of r)) ≡ true)
             (λ r. are_on_time (map (λ x. x.timing) (caused_by out s n row r)) (befores (looper_sender s n) (history_of r))) (λ r one. one) queues h) (ap (λ (t : LooperTest). t.on_time) e);
-        moments = both_left (number_of out == number_of Moments) (number_of out == number_of Starts) _ _ (λ h. h) (ap (λ (t : LooperTest). t.moments) e);
         pulses = both_left (number_of out == number_of Framed) (number_of out == number_of Awaited) _ _ (λ h. h) (ap (λ (t : LooperTest). t.pulses) e);
         pulses_first = both_left (number_of out == number_of First) (number_of out == number_of Rising) _ _ (λ h. h) (ap (λ (t : LooperTest). t.pulses_first) e);
       };

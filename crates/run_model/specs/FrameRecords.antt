@@ -1,7 +1,7 @@
--- A choreographer's record: its frames with the callbacks and the moments of each, and what the senders of a run asked for, and when.
+-- A choreographer's record: the callbacks that each phase of a frame runs, and what the senders of a run asked for, and when.
 use Rattle.std.specs.Prelude.{ℕ, ◌+◌, ◌-◌, ◌*◌, ◌^◌, ◌==◌, min, Bool, true, false, ◌&&◌, nat_le, List, [], ◌∷◌, ◌++◌, Option, Some, None, take, drop, slice_get}
-use Rattle.std.specs.Prelude.{reverse, length, map, if◌then◌else◌, ◌≡◌, ◌/◌}
-use Rattle.std.specs.List.{filter_map, before_first, list_all}
+use Rattle.std.specs.Prelude.{reverse, map, if◌then◌else◌, ◌≡◌, ◌/◌}
+use Rattle.std.specs.List.{filter_map, before_first, range_with_len}
 use Rattle.std.specs.Option.{option_map_or, option_map}
 use Rattle.std.specs.List.Sorted.{IsNonDecreasingBy}
 use Rattle.frame_phases.specs.declared.entry.FrameEntry.{FrameEntry}
@@ -12,7 +12,7 @@ use Rattle.dash_script.specs.declared.script.Command.{Command}
 use Rattle.dash_script.specs.declared.script.Command.TheVariants.{Frame, Unframe}
 use Rattle.run_model.specs.Planned.{TimedCommand, frame_due}
 
--- a frame begins; and the identity of the callback that an entry posts, or hands out to run: callbacks are numbered in the order of posting
+-- a frame begins; and the identity of the callback that an entry posts: callbacks are numbered in the order of posting
 abbrev pub is_begin : FrameEntry → Bool
 is_begin (Begin v s t) = true
 is_begin _ = false
@@ -21,14 +21,23 @@ abbrev pub posted_id : FrameEntry → Option ℕ
 posted_id (Posted c) = Some c.id
 posted_id _ = None
 
-abbrev pub ran_id : List ℕ → FrameEntry → Option ℕ
-ran_id ids (Ran n) = slice_get ids n
-ran_id ids _ = None
+-- the numbers of the callbacks that the first entries hand out; and of those that are handed out right behind the first taking of this phase
+abbrev pub handed_first : List FrameEntry → List ℕ
+handed_first (Ran n ∷ fs) = n ∷ handed_first fs
+handed_first _ = []
 
--- the callbacks that the frame beginning at a place runs, in order: those handed out up to the next Begin
-abbrev pub frame_ids : List FrameEntry → Option ℕ → List ℕ
-frame_ids fs None = []
-frame_ids fs (Some place) = filter_map (ran_id (filter_map posted_id fs)) (before_first is_begin (drop (place + 1) fs))
+abbrev pub handed_in : ℕ → List FrameEntry → List ℕ
+handed_in phase [] = []
+handed_in phase (Take p now time ∷ fs) = if p == phase then handed_first fs else handed_in phase fs
+handed_in phase (_ ∷ fs) = handed_in phase fs
+
+-- the identities of the callbacks that this phase of the frame beginning at a place runs, in order: it is taken before the next Begin
+abbrev pub phase_ids : List FrameEntry → ℕ → ℕ → List ℕ
+phase_ids fs place phase = filter_map (slice_get (filter_map posted_id fs)) (handed_in phase (before_first is_begin (drop (place + 1) fs)))
+
+-- the same of each of so many phases, in order
+abbrev pub frame_ids : ℕ → List FrameEntry → ℕ → List (List ℕ)
+frame_ids phases fs place = map (phase_ids fs place) (range_with_len 0 phases)
 
 -- a frame begins there, no earlier than it may, or there is none
 abbrev pub is_frame_from : List FrameEntry → ℕ → Option ℕ → Bool
@@ -48,14 +57,10 @@ has_stamp fs (Some place) stamp = option_map_or (begins_with stamp) (slice_get f
 abbrev pub was_wanted : List FrameEntry → ℕ → ℕ → Bool
 was_wanted fs place stamp = wanted_by (stamp / 1000000) (reverse (take place fs ++ before_first is_begin (drop place fs)))
 
--- a frame that a dispatch ran: where it begins in the record, and the dispatch's time; one more, where a dispatch runs one; and where the next may begin
-pub record FrameAt : Type 0 where
-  pub place : ℕ
-  pub now : ℕ
-
-abbrev pub frames_after : List FrameAt → Option ℕ → ℕ → List FrameAt
-frames_after xs None now = xs
-frames_after xs (Some place) now = xs ++ record { place = place; now = now } ∷ []
+-- behind a dispatch: how many frames ran, and where the next one may begin
+abbrev pub frames_after : ℕ → Option ℕ → ℕ
+frames_after n None = n
+frames_after n (Some place) = n + 1
 
 abbrev pub place_after : ℕ → Option ℕ → ℕ
 place_after first None = first
@@ -68,36 +73,23 @@ nanos_of millis = min (millis * 1000000) (2 ^ 64 - 1)
 abbrev pub millis_up : ℕ → ℕ
 millis_up nanos = (nanos + 999999) / 1000000
 
--- the moments of the frame that begins at a place: its start, and those at which its phases are taken
-abbrev pub moment_in : FrameEntry → Option ℕ
-moment_in (Begin vsync start time) = Some start
-moment_in (Take phase now time) = Some now
-moment_in _ = None
-
-abbrev pub frame_moments : List FrameEntry → ℕ → List ℕ
-frame_moments fs place = filter_map moment_in (take 1 (drop place fs) ++ before_first is_begin (drop (place + 1) fs))
-
--- each of the frames started at the time of its dispatch, and took each phase then
-abbrev pub are_run_then : List FrameEntry → List FrameAt → Bool
-are_run_then fs xs = list_all (λ x. list_all (λ n. n == nanos_of x.now) (frame_moments fs x.place)) xs
-
--- each of the frames took all phases, of which there are so many
-abbrev pub are_whole : ℕ → List FrameEntry → List FrameAt → Bool
-are_whole phases fs xs = list_all (λ x. length (frame_moments fs x.place) == phases + 1) xs
-
+-- what is asked of a choreographer
 pub data FrameAsk : Type 0 where
   -- to post a callback, due at this millisecond
   Posts : (phase due id : ℕ) (token : Option ℕ) → FrameAsk
   -- to remove the callbacks of this phase and identity, and of this token if there is one
   Removes : (phase id : ℕ) (token : Option ℕ) → FrameAsk
-  -- to run a frame that starts at this moment
-  Runs : (start : ℕ) → FrameAsk
+  -- to begin a frame that starts at this moment
+  Begins : (start : ℕ) → FrameAsk
+  -- to take this phase of it at this moment
+  Takes : (phase moment : ℕ) → FrameAsk
 
 -- what the entries of a frame record were asked for by, in order
 abbrev pub asked_in : FrameEntry → Option FrameAsk
 asked_in (Posted c) = Some (Posts c.phase c.due c.id c.token)
 asked_in (Removed phase id token count) = Some (Removes phase id token)
-asked_in (Begin vsync start time) = Some (Runs start)
+asked_in (Begin vsync start time) = Some (Begins start)
+asked_in (Take phase now time) = Some (Takes phase now)
 asked_in _ = None
 
 abbrev pub asks_in : List FrameEntry → List FrameAsk
@@ -127,20 +119,23 @@ in_round time = 2 * time + 1
 abbrev pub lines_ask_then : ℕ → List TimedCommand → List TimedAsk
 lines_ask_then looper ls = filter_map (λ l. option_map (λ a. record { when = in_block l.time; ask = a }) (line_asks looper l)) ls
 
--- what a looper asks of its own choreographer, each in a round at the time at which a callback is to be due, or a frame to start
+-- what a looper asks of its own choreographer, each in a round at the time at which a callback is to be due, a frame to start or a phase to be taken;
+-- it removes none
 abbrev pub asked_for : FrameAsk → ℕ
 asked_for (Posts phase due id token) = due
 asked_for (Removes phase id token) = 0
-asked_for (Runs start) = start / 1000000
+asked_for (Begins start) = start / 1000000
+asked_for (Takes phase moment) = moment / 1000000
 
 abbrev pub asked_in_rounds : List FrameAsk → List TimedAsk
 asked_in_rounds asks = map (λ a. record { when = in_round (asked_for a); ask = a }) asks
 
--- what is told of an ask in a mode: in free mode a due time and a start are left open, and when it is made
+-- what is told of an ask in a mode: in free mode a due time and a frame's moments are left open, and when it is made
 abbrev pub as_told : Bool → FrameAsk → FrameAsk
 as_told lockstep (Posts phase due id token) = Posts phase (if lockstep then due else 0) id token
 as_told lockstep (Removes phase id token) = Removes phase id token
-as_told lockstep (Runs start) = Runs (if lockstep then start else 0)
+as_told lockstep (Begins start) = Begins (if lockstep then start else 0)
+as_told lockstep (Takes phase moment) = Takes phase (if lockstep then moment else 0)
 
 abbrev pub timed_as_told : Bool → TimedAsk → TimedAsk
 timed_as_told lockstep x = record { when = if lockstep then x.when else 0; ask = as_told lockstep x.ask }

@@ -1,8 +1,8 @@
--- What a looper comes to: its gauges, its traversal, its rules, and the calls and frame callbacks that each act in its journal causes.
+-- What a looper comes to: its gauges, its traversal, its rules, and the calls and the asks of its choreographer that each act in its journal causes.
 use Rattle.std.specs.Prelude.{ℕ, ◌+◌, ◌-◌, ◌==◌, min, Bool, true, false, ◌&&◌, ◌||◌, not, nat_lt, nat_le, List, [], ◌∷◌, ◌++◌, Option, Some, None, is_some, map}
 use Rattle.std.specs.Prelude.{fold, slice_get, slice_set, replicate, length, if◌then◌else◌, ◌≡◌, ◌/◌}
 use Rattle.std.specs.List.{filter_map, list_all, zip, enumerate_from, range_with_len}
-use Rattle.std.specs.Option.{option_map_or, MatchOption}
+use Rattle.std.specs.Option.{option_map, option_map_or, MatchOption}
 use Rattle.loop_model.specs.declared.post.Post.{Post as PostData}
 use Rattle.loop_model.specs.declared.call.Call.TheVariants.{Post, Barrier, Next}
 use Rattle.loop_model.specs.declared.reply.Reply.{Reply}
@@ -17,8 +17,9 @@ use Rattle.frame_phases.specs.Frames.{is_pulse}
 use Rattle.frame_phases.specs.Pulses.{comes_after}
 use Rattle.dash_script.specs.declared.script.Rule.{Rule}
 use Rattle.dash_script.specs.declared.script.Script.{Script}
-use Rattle.run_model.specs.FrameRecords.{TimedAsk, asked_in_rounds, lines_ask_then, millis_up, FrameAsk, Posts, FrameAt, frame_ids, is_frame_from, has_stamp}
-use Rattle.run_model.specs.FrameRecords.{was_wanted, place_after, frames_after, Runs, nanos_of}
+use Rattle.dash_script.specs.Causes.{phase_count}
+use Rattle.run_model.specs.FrameRecords.{TimedAsk, asked_in_rounds, lines_ask_then, millis_up, FrameAsk, Posts, frame_ids, is_frame_from, has_stamp}
+use Rattle.run_model.specs.FrameRecords.{was_wanted, place_after, frames_after, Begins, Takes, nanos_of}
 use Rattle.run_model.specs.Planned.{Ask, Makes, Unbars, bare_call, call_of, looper_of, gauge_line, gauge_looper, frame_handler, animation_id, animation_phase}
 use Rattle.run_model.specs.Planned.{traversal_id, traversal_phase, sent_by, frame_due, frame_message, lines_of}
 use Rattle.run_model.specs.Control.{Timing, At, Exactly, AnyTime}
@@ -46,9 +47,9 @@ pub record LooperState : Type 0 where
   pub barriers : ℕ
   -- how often each rule has fired
   pub fired : List ℕ
-  -- the calls and the frame callbacks that it was to make so far, in order
+  -- the calls that it was to make so far, and what it was to ask of its choreographer, each in order
   pub sent : List SentCall
-  pub posted : List FrameAsk
+  pub asked : List FrameAsk
   -- what it has painted since its last act of another kind
   pub painted : List Act
   -- the stamp of the latest pulse that came, or 0 before the first one
@@ -57,8 +58,8 @@ pub record LooperState : Type 0 where
   pub awaits : Bool
   -- the place in its frame record from which on its next frame may begin
   pub place : ℕ
-  -- the frames that its dispatches ran so far, in order
-  pub frames : List FrameAt
+  -- how many frames its dispatches ran so far
+  pub frame_count : ℕ
 
 -- before the first act
 abbrev pub first_looper : Script → LooperState
@@ -68,20 +69,23 @@ first_looper s = record {
   barriers = 0;
   fired = replicate (length s.rules) 0;
   sent = [];
-  posted = [];
+  asked = [];
   painted = [];
   stamp = 0;
   awaits = false;
   place = 0;
-  frames = [];
+  frame_count = 0;
 }
 
--- one call more, at a moment; one frame callback more, due at once; and another state of a gauge
+-- one call more, at a moment; one ask more of its choreographer; one frame callback more, due at once; and another state of a gauge
 abbrev pub and_sends : ℕ → ℕ → Ask → LooperState → LooperState
 and_sends queue now ask a = record a { sent = a.sent ++ record { queue = queue; ask = ask; reply = None; timing = At now } ∷ [] }
 
+abbrev pub and_asks : FrameAsk → LooperState → LooperState
+and_asks x a = record a { asked = a.asked ++ x ∷ [] }
+
 abbrev pub and_posts_frame : ℕ → ℕ → ℕ → LooperState → LooperState
-and_posts_frame now phase id a = record a { posted = a.posted ++ Posts phase (frame_due now 0) id None ∷ [] }
+and_posts_frame now phase id a = and_asks (Posts phase (frame_due now 0) id None) a
 
 abbrev pub with_gauge : ℕ → GaugeState → LooperState → LooperState
 with_gauge g x a = record a { gauges = slice_set a.gauges g x }
@@ -129,6 +133,14 @@ callback_ran s q now a id =
     else if nat_le 1000000 id then option_map_or (λ x. if x.animating then gauge_moved s q now (id - 1000000) x a else a) (slice_get a.gauges (id - 1000000)) a
     else a
 
+-- a frame runs: it begins, and each phase in order is taken and runs its callbacks, all at the dispatch's time; or there is none
+abbrev pub phase_ran : Script → ℕ → ℕ → LooperState → ℕ × List ℕ → LooperState
+phase_ran s q now a (phase, ids) = fold (callback_ran s q now) (and_asks (Takes phase (nanos_of now)) a) ids
+
+abbrev pub frame_ran : Script → ℕ → ℕ → Option (List (List ℕ)) → LooperState → LooperState
+frame_ran s q now None a = a
+frame_ran s q now (Some phases) a = fold (phase_ran s q now) (and_asks (Begins (nanos_of now)) a) (enumerate_from 0 phases)
+
 -- every other message: each rule for it that is not used up fires, in script order, and sends its message, with the delay counted from the dispatch
 abbrev pub fires : PostData → Rule → ℕ → Bool
 fires m r count = m.handler == r.handler && m.what == r.what && nat_lt count r.times
@@ -147,14 +159,14 @@ reacted s now m a = record a {
   sent = a.sent ++ filter_map (λ (r, n). if fires m r n then Some (reaction s now r) else None) (zip s.rules a.fired);
 }
 
--- the message starts a frame of looper q; and what its dispatch causes, where the frame that it runs, if any, runs callbacks of these identities
+-- the message starts a frame of looper q; and what its dispatch causes, where it runs a frame whose phases run these callbacks, or none
 abbrev pub starts_frame : ℕ → PostData → Bool
 starts_frame q m = not (is_some m.callback) && m.handler == frame_handler q && m.what == 0
 
-abbrev pub after_dispatch : Script → ℕ → ℕ → List ℕ → PostData → LooperState → LooperState
-after_dispatch s q now ids m a =
+abbrev pub after_dispatch : Script → ℕ → ℕ → Option (List (List ℕ)) → PostData → LooperState → LooperState
+after_dispatch s q now phases m a =
     if is_some m.callback then a
-    else if m.handler == frame_handler q then (if m.what == 0 then fold (callback_ran s q now) a ids else a)
+    else if m.handler == frame_handler q then (if m.what == 0 then frame_ran s q now phases a else a)
     else option_map_or (λ g. object_set s q now g m.arg a) m.obj (reacted s now m a)
 
 -- the looper takes a message
@@ -164,11 +176,11 @@ and_takes q n now a = record a { sent = a.sent ++ record { queue = q; ask = Make
 -- a dispatch, by its message, at this time: it runs the frame that begins at this place, or none, and what was painted before is told by then
 abbrev pub dispatched : Script → ℕ → List FrameEntry → Option ℕ → ℕ → ℕ → LooperState → Option PostData → LooperState
 dispatched s q fs frame n now a None = a
-dispatched s q fs frame n now a (Some m) = after_dispatch s q now (frame_ids fs frame) m (and_takes q n now (record a {
+dispatched s q fs frame n now a (Some m) = after_dispatch s q now (option_map (frame_ids (phase_count s.edition) fs) frame) m (and_takes q n now (record a {
   painted = [];
   awaits = a.awaits && not (starts_frame q m);
   place = place_after a.place frame;
-  frames = frames_after a.frames frame now;
+  frame_count = frames_after a.frame_count frame;
 }))
 
 -- what looper q has come to after an act, by its queue's history and its frame record; a dispatch runs the frame that begins at this place, or none
@@ -220,7 +232,7 @@ pulse_stamp (Vsync stamp) = Some stamp
 pulse_stamp _ = None
 
 abbrev pub has_frames : List Act → LooperState → Bool
-has_frames acts a = length (filter_map pulse_stamp acts) == length a.frames + (if a.awaits then 1 else 0)
+has_frames acts a = length (filter_map pulse_stamp acts) == a.frame_count + (if a.awaits then 1 else 0)
 
 -- no pulse of these acts is of this millisecond or an earlier one; and none comes behind a dispatch of its own millisecond or of a later one
 abbrev pub pulses_are_later : ℕ → List Act → Bool
@@ -239,8 +251,8 @@ pub record IsSent (tokens : List ℕ) (x : SentCall) (e : Entry) : Type 0 where
   pub call : bare_call e.call ≡ call_of tokens x.ask
   pub reply : MatchOption x.reply (Unit {0}) (λ r. e.reply ≡ r)
 
--- what each asks of a choreographer, and when: a thread by its lines, and its looper by the frames of its dispatches, at once, and by what its acts post
+-- what each asks of a choreographer, and when: a thread by its lines, and its looper by what its acts cause
 abbrev pub asked_then : Script → ℕ → LooperState → List (List TimedAsk)
 asked_then s q final =
     map (λ thread. lines_ask_then q (lines_of thread s.blocks)) (range_with_len 0 s.threads)
-    ++ asked_in_rounds (map (λ x. Runs (nanos_of x.now)) final.frames) ∷ asked_in_rounds final.posted ∷ []
+    ++ asked_in_rounds final.asked ∷ []

@@ -15,7 +15,7 @@ use Rattle.frame_phases.specs.declared.entry.FrameEntry.{FrameEntry}
 use Rattle.dash_script.specs.declared.script.Script.{Script}
 use Rattle.dash_script.specs.declared.script.Block.{Block}
 use Rattle.run_model.specs.Control.{is_call_in_time, is_quit, is_advance, is_fresh, befores_from, befores, Before, InBlock, are_on_time, are_before_quit}
-use Rattle.run_model.specs.FrameRecords.{FrameAt, is_begin, frame_moments, nanos_of, place_after, frames_after, FrameAsk, Runs}
+use Rattle.run_model.specs.FrameRecords.{is_begin, place_after, frames_after}
 use Rattle.run_model.specs.Loopers.{LooperState, GaugeState, SentCall, starts_frame, gauge_moved}
 use Rattle.run_model.specs.Planned.{TimedCommand, IsPlanned, lines_on, lines_of, labels_on, history_of, AreFor, controller, entries_by, times_on}
 use Rattle.run_model.specs.Text.{post_subject}
@@ -62,21 +62,13 @@ is_threads threads e = nat_lt e.sender threads
 abbrev pub comes_first : ℕ → List Entry → Entry → Bool
 comes_first threads past e = not (is_threads threads e) || (has_disposed (empty_base 0) past || is_fresh (is_threads threads) past)
 
--- whether the frame started and took its phases at the time of the dispatch that ran it
-abbrev pub is_run_then : List FrameEntry → FrameAt → Bool
-is_run_then fs x = list_all (λ n. n == nanos_of x.now) (frame_moments fs x.place)
-
--- whether the frame has its start and all its phases
-abbrev pub is_whole : ℕ → List FrameEntry → FrameAt → Bool
-is_whole phases fs x = length (frame_moments fs x.place) == phases + 1
-
 -- what the record had come to when the first frame from this place on was to begin, from the newest entry to the oldest
 abbrev pub past_before_frame : List FrameEntry → ℕ → List FrameEntry
 past_before_frame fs place = reverse (take place fs ++ before_first is_begin (drop place fs))
 
 -- a looper whose dispatch begins: nothing is painted yet, and the frame that it runs, where it runs one, is the latest
-abbrev pub running : Option ℕ → ℕ → LooperState → LooperState
-running frame now a = record a { painted = []; place = place_after a.place frame; frames = frames_after a.frames frame now }
+abbrev pub running : Option ℕ → LooperState → LooperState
+running frame a = record a { painted = []; place = place_after a.place frame; frame_count = frames_after a.frame_count frame }
 
 -- a looper that awaits its pulse's frame no more, where the message starts one
 abbrev pub and_starts : ℕ → PostData → LooperState → LooperState
@@ -119,10 +111,6 @@ dispatch_words now n p = decimal now ∷ codes "dispatch" ∷ decimal n ∷ post
 -- in free mode, what the entries that pass the test promise of the clock
 abbrev pub AreOfClock : Mode → (Entry → Bool) → List Entry → Type 0
 AreOfClock m test es = IfFree m (AreOfClockAfter m test [] es)
-
--- what a looper asks its choreographer for by these frames
-abbrev pub asks_to_run : List FrameAt → List FrameAsk
-asks_to_run xs = map (λ x. Runs (nanos_of x.now)) xs
 
 -- the thread's entries of the queue's history are, line by line, as planned
 abbrev pub AreAsPlanned : Mode → Script → ℕ → ℕ → List Entry → Type 0

@@ -22,7 +22,7 @@ use Rattle.run_model.specs.Moments.{Mode, IfLockstep, in_lockstep, IfFree, AreOf
 use Rattle.run_model.specs.Control.{is_controlled, ends_halted, is_called_in_time, are_before_quit, befores, InBlock, are_on_time, each_behind, moves}
 use Rattle.run_model.specs.Control.{AreMovedTogether, AreBlocksFirst, AreBlocksReached}
 use Rattle.run_model.specs.Loopers.{LooperState, SentCall, first_looper, ActsLead, closing, IsSent, asked_then, has_frames, pulses_come_first}
-use Rattle.run_model.specs.FrameRecords.{are_run_then, are_whole, asks_in, AreAskedInTurn}
+use Rattle.run_model.specs.FrameRecords.{asks_in, AreAskedInTurn}
 
 abbrev pub record_setting : QueueRecord → Setting
 record_setting r = record { main = r.main; lockstep = r.lockstep; senders = r.senders }
@@ -73,10 +73,9 @@ pub record IsFrameRun (s : Script) (f : FrameRecord) : Type 0 where
 abbrev pub caused_on : ℕ → LooperState → ℕ → ℕ → List SentCall
 caused_on queue final looper disposed_at = filter (λ x. x.queue == queue) (final.sent ++ closing looper disposed_at)
 
--- a looper's calls on each queue are those that its acts cause, the posts, removals and frames of its frame record are parted among those who ask for
--- them, in turn, the frames are whole, and its Dispatch acts are, one for one and in order, its entries answered Dispatched. All that was painted is told. In
--- lockstep each call is on time, each frame starts and takes its phases at the time of its dispatch, each pulse whose message is taken has its frame, and
--- none comes behind a dispatch of its own millisecond
+-- a looper's calls on each queue are those that its acts cause, the posts, removals, beginnings and phases of its frame record are parted among those who ask
+-- for them, in turn, and its Dispatch acts are, one for one and in order, its entries answered Dispatched. All that was painted is told. In lockstep each call
+-- and each ask is on time, each pulse whose message is taken has its frame, and none comes behind a dispatch of its own millisecond
 pub record IsLooperRun (m : Mode) (s : Script) (queues : List QueueRecord) (q : QueueRecord) (j : Journal) (f : FrameRecord) : Type 0 where
   pub final : LooperState
   pub acts : ActsLead s q.looper (history_of q) f.entries (first_looper s) j.acts final
@@ -86,10 +85,8 @@ pub record IsLooperRun (m : Mode) (s : Script) (queues : List QueueRecord) (q : 
   pub calls : AllByRecursion (λ (r : QueueRecord).
       AreFor IsSent [] (caused_on r.looper final q.looper disposed_at) (entries_by (looper_sender s q.looper) (history_of r))) queues
   pub asked : AreAskedInTurn m.lockstep (asks_in f.entries) (asked_then s q.looper final)
-  pub whole : are_whole f.phases f.entries final.frames ≡ true
   pub on_time : IfLockstep m (AllByRecursion (λ (r : QueueRecord).
       are_on_time (map (λ x. x.timing) (caused_on r.looper final q.looper disposed_at)) (befores (looper_sender s q.looper) (history_of r)) ≡ true) queues)
-  pub moments : IfLockstep m (are_run_then f.entries final.frames ≡ true)
   pub pulses : IfLockstep m (has_frames j.acts final ≡ true)
   pub pulses_first : IfLockstep m (pulses_come_first j.acts ≡ true)
 

@@ -114,7 +114,7 @@ module _ {lockstep : Bool} {s : Script} {hall : Hall} {i : ℕ} {c : Controller}
   has_poster = subst (λ n. i < n) (sym (poster_count s hall c at.is_hall at.controller)) at.known
 
   pub pass_count : length c.kit.frames.items ≡ s.loopers
-  pass_count = alike_length frame_badge_of (frame_badge_for (s.threads + 2)) c.kit.frames.items hall.choreographers.items at.controller.frames ∙ choreographer_count s hall.choreographers.items at.is_hall.choreographers
+  pass_count = alike_length frame_badge_of (frame_badge_for (s.threads + 1)) c.kit.frames.items hall.choreographers.items at.controller.frames ∙ choreographer_count s hall.choreographers.items at.is_hall.choreographers
 
   -- it has a poster and a pass for each looper
   pub in_posters : i < vec_len c.kit.posters
@@ -129,7 +129,7 @@ module _ {lockstep : Bool} {s : Script} {hall : Hall} {i : ℕ} {c : Controller}
       poster_is (controller s) hall.queues.items c.kit.posters.items at.controller.posters i p q has_poster is_p is_q
 
   pub own_pass : {p : Pass} {f : SharedFrames} → p ≡ slice_index_or c.kit.frames.items i p → f ≡ slice_index_or hall.choreographers.items i f → IsPassOf p f
-  own_pass {p} {f} is_p is_f = pass_is (s.threads + 2) hall.choreographers.items c.kit.frames.items at.controller.frames i p f (subst (λ n. i < n) (sym pass_count) at.known) is_p is_f
+  own_pass {p} {f} is_p is_f = pass_is (s.threads + 1) hall.choreographers.items c.kit.frames.items at.controller.frames i p f (subst (λ n. i < n) (sym pass_count) at.known) is_p is_f
 
   -- it is the last sender of a queue in lockstep
   pub is_last : {p : Sender} {q : Shared TableId} → p ≡ slice_index_or c.kit.posters.items i p → q ≡ slice_index_or hall.queues.items i q → p.sender + 1 ≡ q.constants.setting.senders
@@ -178,7 +178,7 @@ module _ {lockstep : Bool} {s : Script} {hall : Hall} {i : ℕ} {c : Controller}
       → IsControllerIn lockstep s hall (record { kit = record { posters = c.kit.posters; pass = c.kit.pass; frames = with_item c.kit.frames i p' }; sealed = c.sealed; sealed_frames = c.sealed_frames })
   after_frame_turn {p} {p'} {x} is_p t = record {
     posters = at.controller.posters;
-    frames = passes_kept (s.threads + 2) hall.choreographers.items c.kit.frames.items at.controller.frames i p' p (frame_turn_badge p p' x x t ∙ ap frame_badge_of is_p);
+    frames = passes_kept (s.threads + 1) hall.choreographers.items c.kit.frames.items at.controller.frames i p' p (frame_turn_badge p p' x x t ∙ ap frame_badge_of is_p);
     pass = at.controller.pass;
     mode = at.controller.mode;
     sealed = at.controller.sealed;
@@ -240,7 +240,7 @@ module _ {s : Script} {hall : Hall} {i : ℕ} {c : Controller} (at : CanTurn tru
   pub frames_controller : IsController s hall after_frames
   frames_controller = record {
     posters = at.controller.posters;
-    frames = passes_kept (s.threads + 2) hall.choreographers.items c.kit.frames.items at.controller.frames i p' p (out.badge ∙ ap frame_badge_of is_p);
+    frames = passes_kept (s.threads + 1) hall.choreographers.items c.kit.frames.items at.controller.frames i p' p (out.badge ∙ ap frame_badge_of is_p);
     pass = at.controller.pass;
     mode = at.controller.mode;
     idle = idle_kept c.kit.frames.items i p p' is_p has_pass out.own at.controller.idle;
@@ -255,12 +255,12 @@ last_pass {s} {hall} {i} {c} at {p} {f} is_p is_f =
     let lt = at.known in
     let many = pass_count at in
     let few = choreographer_count s hall.choreographers.items at.is_hall.choreographers in
-    let mine : frame_badge_of p ≡ frame_badge_for (s.threads + 2) f =
+    let mine : frame_badge_of p ≡ frame_badge_for (s.threads + 1) f =
     ap frame_badge_of is_p ∙ (sym (get_or-map frame_badge_of c.kit.frames.items i p (frame_badge_of p) (omega (arith, lt, many)))
     ∙ (ap (λ l. get_or l i (frame_badge_of p)) at.controller.frames
-    ∙ (get_or-map (frame_badge_for (s.threads + 2)) hall.choreographers.items i f (frame_badge_of p) (omega (arith, lt, few)) ∙ ap (frame_badge_for (s.threads + 2)) (sym is_f)))) in
-    let number : p.number ≡ s.threads + 2 = ap (λ (b : FrameBadge). b.number) mine in
-    let passes : f.constants.passes ≡ s.threads + 3 =
+    ∙ (get_or-map (frame_badge_for (s.threads + 1)) hall.choreographers.items i f (frame_badge_of p) (omega (arith, lt, few)) ∙ ap (frame_badge_for (s.threads + 1)) (sym is_f)))) in
+    let number : p.number ≡ s.threads + 1 = ap (λ (b : FrameBadge). b.number) mine in
+    let passes : f.constants.passes ≡ s.threads + 2 =
     ap (λ (z : SharedFrames). z.constants.passes) is_f ∙ ap (λ (z : FrameConstants). z.passes) (choreographer_at s hall.choreographers.items at.is_hall.choreographers i f lt) in
     omega (arith, number, passes)
 

@@ -36,30 +36,17 @@ use Rattle.dash_stage.proofs.Played.KitsOver.{last_kit}
 
 -- ==== the choreographers end, one after another, with all their passes
 
--- the passes of the looper's that come before its pass of this place
-given_mine : (s : Script) (looper : ℕ) (c : SharedFrames) (k i : ℕ) → k ≡ s.threads + looper → i < 2 → length (given s looper c k 0 (s.threads + i)) ≡ i
-given_mine s looper c k zero is small =
-    let none : s.threads + 0 ≡ s.threads = omega arith in
-    ap (λ m. length (given s looper c k 0 m)) none ∙ ap length (given_none s looper c k s.threads (omega arith) (omega (arith, is)))
-given_mine s looper c k (suc zero) is small =
-    let zeroth : 0 + s.threads ≡ s.threads = omega arith in
-    let one = is_given s looper c k s.threads (looper_holds s looper s.threads (omega arith) (omega arith) ∙ sym is) in
-    ap length (given_more s looper c k 0 s.threads
-    ∙ (λ i. given_none s looper c k s.threads (omega arith) (omega (arith, is)) i ++ (ap (given_one s looper c k) zeroth ∙ one) i))
-given_mine s looper c k (suc (suc i)) is small = absurd (omega (arith, small))
+-- no pass of the looper's comes before its own
+given_mine : (s : Script) (looper : ℕ) (c : SharedFrames) (k : ℕ) → k ≡ s.threads + looper → length (given s looper c k 0 s.threads) ≡ 0
+given_mine s looper c k is = ap length (given_none s looper c k s.threads (omega arith) (omega (arith, is)))
 
 -- and none comes before the controller's
-given_final : (s : Script) (looper : ℕ) (c : SharedFrames) → looper < s.loopers → length (given s looper c (s.threads + s.loopers) 0 (s.threads + 2)) ≡ 0
+given_final : (s : Script) (looper : ℕ) (c : SharedFrames) → looper < s.loopers → length (given s looper c (s.threads + s.loopers) 0 (s.threads + 1)) ≡ 0
 given_final s looper c few =
     let k : ℕ = s.threads + s.loopers in
-    let both : s.threads + 2 ≡ s.threads + 1 + 1 = omega arith in
     let zeroth : 0 + s.threads ≡ s.threads = omega arith in
-    let first : 0 + (s.threads + 1) ≡ s.threads + 1 = omega arith in
     let a = not_given s looper c k s.threads (s.threads + looper) (looper_holds s looper s.threads (omega arith) (omega arith)) (λ e. absurd (omega (arith, e, few))) in
-    let b = not_given s looper c k (s.threads + 1) (s.threads + looper) (looper_holds s looper (s.threads + 1) (omega arith) (omega arith)) (λ e. absurd (omega (arith, e, few))) in
-    let one : given s looper c k 0 (s.threads + 1) ≡ [] =
-    given_more s looper c k 0 s.threads ∙ (λ i. given_none s looper c k s.threads (omega arith) (omega arith) i ++ (ap (given_one s looper c k) zeroth ∙ a) i) in
-    ap length (ap (given s looper c k 0) both ∙ (given_more s looper c k 0 (s.threads + 1) ∙ (λ i. one i ++ (ap (given_one s looper c k) first ∙ b) i)))
+    ap length (given_more s looper c k 0 s.threads ∙ (λ i. given_none s looper c k s.threads (omega arith) (omega arith) i ++ (ap (given_one s looper c k) zeroth ∙ a) i))
 
 -- the passes with the first numbers were taken from the kits, each from its holder's
 pub record AreTaken (s : Script) (looper : ℕ) (c : SharedFrames) (number : ℕ) (orig : List Kit) (passes : List Pass) (kits : List Kit) : Type 0 where
@@ -69,11 +56,11 @@ pub record AreTaken (s : Script) (looper : ℕ) (c : SharedFrames) (number : ℕ
 
 -- the next pass in the kit of its holder
 pub next_frames : (s : Script) (looper : ℕ) (c : SharedFrames) (number : ℕ) (orig : List Kit) (passes : List Pass) (kits : List Kit) (h : ℕ) (d : Kit)
-    → number < s.threads + 3 → h ≡ holder_of s looper number → h < length orig → BeginWithPasses s looper c orig → AreTaken s looper c number orig passes kits
+    → number < s.threads + 2 → h ≡ holder_of s looper number → h < length orig → BeginWithPasses s looper c orig → AreTaken s looper c number orig passes kits
     → (more : List FrameBadge) × (map frame_badge_of (get_or kits h d).frames.items ≡ frame_badge_for number c ∷ more)
 next_frames s looper c number orig passes kits h d lt held within begins taken =
-    let rest = s.threads + 3 - number - 1 in
-    let all : s.threads + 3 ≡ number + suc rest = omega (arith, lt) in
+    let rest = s.threads + 2 - number - 1 in
+    let all : s.threads + 2 ≡ number + suc rest = omega (arith, lt) in
     let zeroth : 0 + number ≡ number = omega arith in
     let begin = begins h d within in
     let fs = (get_or orig h d).frames.items in
@@ -92,7 +79,7 @@ next_frames s looper c number orig passes kits h d lt held within begins taken =
     )
 
 pub has_pass : (s : Script) (looper : ℕ) (c : SharedFrames) (number : ℕ) (orig : List Kit) (passes : List Pass) (kits : List Kit) (h : ℕ) (d : Kit)
-    → number < s.threads + 3 → h ≡ holder_of s looper number → h < length orig → BeginWithPasses s looper c orig → AreTaken s looper c number orig passes kits
+    → number < s.threads + 2 → h ≡ holder_of s looper number → h < length orig → BeginWithPasses s looper c orig → AreTaken s looper c number orig passes kits
     → 0 < length (get_or kits h d).frames.items
 has_pass s looper c number orig passes kits h d lt held within begins taken =
     let next = next_frames s looper c number orig passes kits h d lt held within begins taken in
@@ -102,7 +89,7 @@ has_pass s looper c number orig passes kits h d lt held within begins taken =
 
 -- one pass more was taken
 pub takes_more : (s : Script) (looper : ℕ) (c : SharedFrames) (number : ℕ) (orig : List Kit) (passes passes' : List Pass) (p : Pass) (kits kits' : List Kit) (h : ℕ) (e kit : Kit)
-    → number < s.threads + 3 → h ≡ holder_of s looper number → h < length orig → BeginWithPasses s looper c orig → length passes ≡ number
+    → number < s.threads + 2 → h ≡ holder_of s looper number → h < length orig → BeginWithPasses s looper c orig → length passes ≡ number
     → passes' ≡ passes ++ p ∷ [] → kits' ≡ set kits h kit → GivesPass (get_or kits h e) p kit
     → AreTaken s looper c number orig passes kits → AreTaken s looper c (number + 1) orig passes' kits'
 takes_more s looper c number orig passes passes' p kits kits' h e kit lt held within begins count more wrote gives taken =
@@ -166,44 +153,42 @@ takes_more s looper c number orig passes passes' p kits kits' h e kit lt held wi
         ap length (given_more s looper c k 0 number ∙ ap (λ m. given s looper c k 0 number ++ given_one s looper c k m) zeroth)
         ∙ length-append (given s looper c k 0 number) (given_one s looper c k number)
 
-module _ (s : Script) (looper : ℕ) (c : SharedFrames) (number : ℕ) (orig : List Kit) (passes : List Pass) (kits : List Kit) (entries : List FrameEntry) (count : length passes ≡ number) (all : number ≡ s.threads + 3) (taken : AreTaken s looper c number orig passes kits) where
-  -- where each thread's pass stood, where the looper's two stood, and where the controller's stood
+module _ (s : Script) (looper : ℕ) (c : SharedFrames) (number : ℕ) (orig : List Kit) (passes : List Pass) (kits : List Kit) (entries : List FrameEntry) (count : length passes ≡ number) (all : number ≡ s.threads + 2) (taken : AreTaken s looper c number orig passes kits) where
+  -- where each thread's pass stood, where the looper's stood, and where the controller's stood
   firsts_taken : (k : ℕ) (d : Kit) (p : Pass) → k < s.threads → get_or passes k p ≡ get_or (get_or orig k d).frames.items 0 p
   firsts_taken k d p lt =
       taken.placed k d p (omega (arith, lt, all))
       ∙ (ap (λ j. get_or (get_or orig j d).frames.items (length (given s looper c j 0 k)) p) (thread_holds s looper k lt)
       ∙ ap (λ (l : List FrameBadge). get_or (get_or orig k d).frames.items (length l) p) (given_none s looper c k k (omega (arith, lt)) (omega arith)))
 
-  mine_taken : (i : ℕ) (d : Kit) (p : Pass) → i < 2 → get_or passes (s.threads + i) p ≡ get_or (get_or orig (s.threads + looper) d).frames.items i p
-  mine_taken i d p small =
-      taken.placed (s.threads + i) d p (omega (arith, small, all))
-      ∙ (ap (λ j. get_or (get_or orig j d).frames.items (length (given s looper c j 0 (s.threads + i))) p) (looper_holds s looper (s.threads + i) (omega arith) (omega (arith, small)))
-      ∙ ap (λ m. get_or (get_or orig (s.threads + looper) d).frames.items m p) (given_mine s looper c (s.threads + looper) i refl small))
+  mine_taken : (d : Kit) (p : Pass) → get_or passes s.threads p ≡ get_or (get_or orig (s.threads + looper) d).frames.items 0 p
+  mine_taken d p =
+      taken.placed s.threads d p (omega (arith, all))
+      ∙ (ap (λ j. get_or (get_or orig j d).frames.items (length (given s looper c j 0 s.threads)) p) (looper_holds s looper s.threads (omega arith) (omega arith))
+      ∙ ap (λ m. get_or (get_or orig (s.threads + looper) d).frames.items m p) (given_mine s looper c (s.threads + looper) refl))
 
-  pub last_taken : (d : Kit) (p : Pass) → looper < s.loopers → get_or passes (s.threads + 2) p ≡ get_or (get_or orig (s.threads + s.loopers) d).frames.items 0 p
+  pub last_taken : (d : Kit) (p : Pass) → looper < s.loopers → get_or passes (s.threads + 1) p ≡ get_or (get_or orig (s.threads + s.loopers) d).frames.items 0 p
   last_taken d p few =
-      taken.placed (s.threads + 2) d p (omega (arith, all))
-      ∙ (ap (λ j. get_or (get_or orig j d).frames.items (length (given s looper c j 0 (s.threads + 2))) p) (controller_holds s looper (s.threads + 2) (omega arith))
+      taken.placed (s.threads + 1) d p (omega (arith, all))
+      ∙ (ap (λ j. get_or (get_or orig j d).frames.items (length (given s looper c j 0 (s.threads + 1))) p) (controller_holds s looper (s.threads + 1) (omega arith))
       ∙ ap (λ m. get_or (get_or orig (s.threads + s.loopers) d).frames.items m p) (given_final s looper c few))
 
-  -- what was seen by the looper's two passes begins the entries
+  -- what was seen by the looper's pass begins the entries
   pub taken_own : BeginWithSeen entries passes → BeginWithOwn (s.threads + looper) orig entries
-  taken_own seen = λ i d p small. subst (λ (x : Pass). IsPrefix x.view.seen entries) (mine_taken i d p small) (seen (s.threads + i) p (omega (arith, small, all, count)))
+  taken_own seen = λ d p. subst (λ (x : Pass). IsPrefix x.view.seen entries) (mine_taken d p) (seen s.threads p (omega (arith, all, count)))
 
   module _ (few : looper < s.loopers) (d : Kit) (p : Pass) where
     first : ℕ → Pass
     first k = get_or (get_or orig k d).frames.items 0 p
 
     rest : List Pass
-    rest =
-        get_or (get_or orig (s.threads + looper) d).frames.items 0 p ∷ get_or (get_or orig (s.threads + looper) d).frames.items 1 p ∷ get_or (get_or orig (s.threads + s.loopers) d).frames.items 0 p ∷ []
+    rest = get_or (get_or orig (s.threads + looper) d).frames.items 0 p ∷ get_or (get_or orig (s.threads + s.loopers) d).frames.items 0 p ∷ []
 
-    others : (j : ℕ) → j < 3 → get_or passes (s.threads + j) p ≡ get_or rest j p
+    others : (j : ℕ) → j < 2 → get_or passes (s.threads + j) p ≡ get_or rest j p
     unfolding rest
-    others zero lt = mine_taken 0 d p (omega arith)
-    others (suc zero) lt = mine_taken 1 d p (omega arith)
-    others (suc (suc zero)) lt = last_taken d p few
-    others (suc (suc (suc j))) lt = absurd (omega (arith, lt))
+    others zero lt = (let here : s.threads + 0 ≡ s.threads = omega arith in ap (λ m. get_or passes m p) here ∙ mine_taken d p)
+    others (suc zero) lt = last_taken d p few
+    others (suc (suc j)) lt = absurd (omega (arith, lt))
 
     -- all passes, in order
     all_taken : passes ≡ passes_at s looper 0 orig d p
@@ -211,14 +196,14 @@ module _ (s : Script) (looper : ℕ) (c : SharedFrames) (number : ℕ) (orig : L
     all_taken =
         let these : List Pass = map first (range_with_len 0 s.threads) in
         let long : length these ≡ s.threads = length-map-range_with_len first 0 s.threads in
-        let both : length (these ++ rest) ≡ length these + 3 = length-append these rest in
+        let both : length (these ++ rest) ≡ length these + 2 = length-append these rest in
         ext_get_or p passes (these ++ rest) (omega (arith, count, all, both, long)) (λ i lt. dite (dec_lt i s.threads)
         (λ thread. firsts_taken i d p thread
         ∙ sym (get_or-append these rest p i (omega (arith, thread, long)) ∙ get_or-map-range_with_len first 0 s.threads i i p thread (omega arith)))
         (λ not.
         let j : ℕ = i - s.threads in
         let at : i ≡ s.threads + j = omega (arith, not) in
-        let near : j < 3 = omega (arith, lt, count, all) in
+        let near : j < 2 = omega (arith, lt, count, all) in
         ap (λ m. get_or passes m p) at ∙ (others j near ∙ sym (get_or-append_right these rest s.threads i p long (omega (arith, not))))))
 
   -- the entries are those that the next passes recorded
@@ -252,7 +237,7 @@ ended_none s cs kits marks = record {
   marks = marks;
   threads = λ k d lt. refl;
   controller = λ d. refl;
-  own = λ q i d p r small none. absurd (omega (arith, none));
+  own = λ q d p r none. absurd (omega (arith, none));
   later = λ j d from lt. refl;
   pool = λ k d lt. refl;
 }
@@ -307,16 +292,16 @@ ends_more s looper c rest orig kits kits' records records' r long few enough law
       (left.each (s.threads + s.loopers) d (omega (arith, enough, same))).frames
       ∙ (ap (λ m. drop m (get_or kits (s.threads + s.loopers) d).frames.items) one
       ∙ (ap (drop 1) (before.controller d) ∙ drop-drop 1 looper (get_or orig (s.threads + s.loopers) d).frames.items));
-  own = λ q i d p x small below. dite (dec_lt q (length records))
-      (λ early. subst (λ (y : FrameRecord). IsPrefix (get_or (get_or orig (s.threads + q) d).frames.items i p).view.seen y.entries) (sym (get_or-append records (r ∷ []) x q early)) (before.own q i d p x small early))
+  own = λ q d p x below. dite (dec_lt q (length records))
+      (λ early. subst (λ (y : FrameRecord). IsPrefix (get_or (get_or orig (s.threads + q) d).frames.items 0 p).view.seen y.entries) (sym (get_or-append records (r ∷ []) x q early)) (before.own q d p x early))
       (λ late.
       let all = length-append records (r ∷ []) in
       let last : q ≡ length records = omega (arith, late, below, all) in
       let place : q ≡ looper = omega (arith, last, long) in
-      let first : get_or (get_or kits (s.threads + looper) d).frames.items i p ≡ get_or (get_or orig (s.threads + q) d).frames.items i p =
-      ap (λ l. get_or l i p) (before.later looper d (omega arith) few) ∙ ap (λ m. get_or (get_or orig (s.threads + m) d).frames.items i p) (sym place) in
-      subst (λ (y : FrameRecord). IsPrefix (get_or (get_or orig (s.threads + q) d).frames.items i p).view.seen y.entries) (sym (ap (λ m. get_or (records ++ r ∷ []) m x) last ∙ get_or-append_seam records r [] x))
-      (subst (λ (y : Pass). IsPrefix y.view.seen r.entries) first (begins_own i d p small)));
+      let first : get_or (get_or kits (s.threads + looper) d).frames.items 0 p ≡ get_or (get_or orig (s.threads + q) d).frames.items 0 p =
+      ap (λ l. get_or l 0 p) (before.later looper d (omega arith) few) ∙ ap (λ m. get_or (get_or orig (s.threads + m) d).frames.items 0 p) (sym place) in
+      subst (λ (y : FrameRecord). IsPrefix (get_or (get_or orig (s.threads + q) d).frames.items 0 p).view.seen y.entries) (sym (ap (λ m. get_or (records ++ r ∷ []) m x) last ∙ get_or-append_seam records r [] x))
+      (subst (λ (y : Pass). IsPrefix y.view.seen r.entries) first (begins_own d p)));
   later = λ j d from lt.
       let none : length (given_of s looper c (s.threads + j)) ≡ 0 =
       ap length (of_other s looper c (s.threads + j) (omega arith) (λ e. absurd (omega (arith, e, from))) (λ e. absurd (omega (arith, e, lt)))) in
@@ -341,7 +326,7 @@ ends_more s looper c rest orig kits kits' records records' r long few enough law
         let threads = map_same (λ k. get_or (get_or kits k d).frames.items 0 p) (λ k. get_or (get_or orig k d).frames.items looper p) 0 s.threads (λ k lt. next_is k d p (before.threads k d (omega (arith, lt)))) in
         let mine : (get_or kits (s.threads + looper) d).frames.items ≡ (get_or orig (s.threads + looper) d).frames.items = before.later looper d (omega arith) few in
         let last = next_is (s.threads + s.loopers) d p (before.controller d) in
-        λ i. threads i ++ get_or (mine i) 0 p ∷ get_or (mine i) 1 p ∷ last i ∷ []
+        λ i. threads i ++ get_or (mine i) 0 p ∷ last i ∷ []
 
     all_push : (l : List FrameRecord) → AllByRecursion (IsFrameRun s) l → AllByRecursion (IsFrameRun s) (l ++ r ∷ [])
     all_push [] h = (lawful, tt)
@@ -363,7 +348,7 @@ frames_kept s before after records count few kept theirs q d p r lt =
     let threads = map_same (λ k. get_or (get_or after k d).frames.items q p) (λ k. get_or (get_or before k d).frames.items q p) 0 s.threads (λ k below. ap (λ l. get_or l q p) (frames_of k (omega (arith, below, count)))) in
     let mine = frames_of (s.threads + q) (omega (arith, lt, few, count)) in
     let last = frames_of (s.threads + s.loopers) (omega (arith, count)) in
-    let same : passes_at s q q after d p ≡ passes_at s q q before d p = λ i. threads i ++ get_or (mine i) 0 p ∷ get_or (mine i) 1 p ∷ get_or (last i) q p ∷ [] in
+    let same : passes_at s q q after d p ≡ passes_at s q q before d p = λ i. threads i ++ get_or (mine i) 0 p ∷ get_or (last i) q p ∷ [] in
     subst (AreHeard (get_or records q r).entries) same (theirs q d p r lt)
 
 -- ==== the parts of frame records that the controller kept go with its passes, choreographer after choreographer
@@ -427,17 +412,17 @@ module _ (kits : List Kit) (lists : List (Vec (List FrameEntry))) (sealed : AreF
       (other_parts (get_or kits k d).frames.items lists (sealed k d (omega (arith, last, same))) (have k d (omega (arith, last, same))))
 
 -- the last of the passes that were taken handed these parts out
-pub taken_sealed : (s : Script) (looper : ℕ) (c : SharedFrames) (number : ℕ) (orig : List Kit) (passes : List Pass) (kits : List Kit) (parts : List (List FrameEntry)) → length passes ≡ number → number ≡ s.threads + 3
+pub taken_sealed : (s : Script) (looper : ℕ) (c : SharedFrames) (number : ℕ) (orig : List Kit) (passes : List Pass) (kits : List Kit) (parts : List (List FrameEntry)) → length passes ≡ number → number ≡ s.threads + 2
     → AreTaken s looper c number orig passes kits → looper < s.loopers → length orig ≡ s.threads + s.loopers + 1 → HasSealedNextFrames orig parts → AreHandedOut passes (entries_in parts)
 taken_sealed s looper c number orig passes kits parts count all taken few senders next k p last =
-    let here : k ≡ s.threads + 2 = omega (arith, last, count, all) in
+    let here : k ≡ s.threads + 1 = omega (arith, last, count, all) in
     let d = some_of orig (s.threads + s.loopers) (omega (arith, senders)) in
     let is : get_or passes k p ≡ get_or (get_or orig (s.threads + s.loopers) d).frames.items 0 p =
     ap (λ m. get_or passes m p) here ∙ last_taken s looper c number orig passes kits [] count all taken d p few in
     subst (λ (z : Pass). HasHandedOut z (entries_in parts)) (sym is) (next (s.threads + s.loopers) d p (omega (arith, senders)))
 
 -- and the kits have given up the passes that they had of it
-pub taken_kits : (s : Script) (looper : ℕ) (c : SharedFrames) (number : ℕ) (orig : List Kit) (passes : List Pass) (kits : List Kit) (result : Result FrameRecord NoMemory) → number ≡ s.threads + 3
+pub taken_kits : (s : Script) (looper : ℕ) (c : SharedFrames) (number : ℕ) (orig : List Kit) (passes : List Pass) (kits : List Kit) (result : Result FrameRecord NoMemory) → number ≡ s.threads + 2
     → AreTaken s looper c number orig passes kits → OnOk result (HaveFramesLeft (λ k. length (given_of s looper c k)) orig kits)
 taken_kits s looper c number orig passes kits (Ok r) all taken = subst (λ (n : ℕ). HaveFramesLeft (λ k. length (given s looper c k 0 n)) orig kits) all taken.left
 taken_kits s looper c number orig passes kits (Err e) all taken = tt

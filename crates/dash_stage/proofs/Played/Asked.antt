@@ -1,4 +1,4 @@
--- What a frame record was asked for is parted, in turn, among those who ask: the threads by their lines, and the looper by its frames and its acts.
+-- What a frame record was asked for is parted, in turn, among those who ask: the threads by their lines, and the looper by its acts.
 use Rattle.std.proofs.Common.{◌≡◌, ◌<◌, ◌≤◌, ◌+◌, ◌-◌, ◌==◌, length, subst, ℕ, zero, suc, Bool, true, false, List, [], ◌∷◌, ◌++◌, Option, Some, None, map, refl, sym, ap, ◌∙◌, arith, slice_index_or, append_assoc, append-nil}
 use Rattle.std.specs.Prelude.{if◌then◌else◌, MatchBool}
 use Rattle.std.specs.List.{cons_option, filter_map, range_with_len}
@@ -20,7 +20,6 @@ use Rattle.choreographer.specs.Ends.{AreHeard, own_of}
 use Rattle.run_model.specs.Planned.{lines_of}
 use Rattle.run_model.specs.Loopers.{LooperState, asked_then}
 use Rattle.run_model.specs.FrameRecords.{FrameAsk, asked_in, asks_in, as_told, AreAskedInTurn}
-use Rattle.run_model.specs.Parts.{asks_to_run}
 use Rattle.run_model.specs.AskedSoFar.{lines_ask, HaveAsked, second, asked_so_far}
 use Rattle.run_model.proofs.AskedInTurn.{AreAskedBy, asked_of, then_asks, parted_in_turn, all_asked}
 use Rattle.dash_hall.specs.declared.kit.Kit.{Kit}
@@ -105,22 +104,20 @@ no_asks ((n, e) ∷ made) none = by_entry (asked_in e) refl (no_asks made others
     by_entry (Some a) is rest = absurd (let long = ap length (ap (λ o. cons_option o (asks_in (dealt_to n made))) (sym is) ∙ mine) in omega (arith, long))
 
 -- what was asked of the choreographer of looper q so far, as the controller's pass has heard it: in turn, by the threads for all their lines, and by the looper
--- for the frames and the posts of this state
+-- for what this state asks
 pub record HasAskedInTurn (s : Script) (q : ℕ) (pass : Pass) (a : LooperState) : Type 0 where
   pub made : List (ℕ × FrameEntry)
   pub heard : pass.view.heard ≡ made
   pub until : ℕ
   pub asked : HaveAsked until made (asked_so_far s.threads q s.blocks made)
   pub threads : (k : ℕ) → k < s.threads → asks_in (dealt_to k made) ≡ lines_ask q (lines_of k s.blocks)
-  pub ran : asks_in (dealt_to s.threads made) ≡ asks_to_run a.frames
-  pub posted : asks_in (dealt_to (s.threads + 1) made) ≡ a.posted
-  pub idle : (k : ℕ) → s.threads + 2 ≤ k → dealt_to k made ≡ []
+  pub looper : asks_in (dealt_to s.threads made) ≡ a.asked
+  pub idle : (k : ℕ) → s.threads + 1 ≤ k → dealt_to k made ≡ []
 
--- what each of two asks for, and nobody behind them
-by_two : (x y : List FrameAsk) (P : ℕ → List FrameAsk) → P 0 ≡ x → P 1 ≡ y → ((k : ℕ) → 2 ≤ k → P k ≡ []) → (k : ℕ) → P k ≡ slice_index_or (x ∷ y ∷ []) k []
-by_two x y P first other none zero = first
-by_two x y P first other none (suc zero) = other
-by_two x y P first other none (suc (suc k)) = none (suc (suc k)) (omega arith)
+-- what one asks for, and nobody behind it
+by_one : (x : List FrameAsk) (P : ℕ → List FrameAsk) → P 0 ≡ x → ((k : ℕ) → 1 ≤ k → P k ≡ []) → (k : ℕ) → P k ≡ slice_index_or (x ∷ []) k []
+by_one x P first none zero = first
+by_one x P first none (suc k) = none (suc k) (omega arith)
 
 -- what each asked for
 each_asks : (s : Script) (q : ℕ) (pass : Pass) (a : LooperState) (t : HasAskedInTurn s q pass a) → (k : ℕ) → asks_in (dealt_to k t.made) ≡ slice_index_or (asked_of s q a) k []
@@ -129,14 +126,14 @@ each_asks s q pass a t k =
     let lines : List (List FrameAsk) = map of_line (range_with_len 0 s.threads) in
     let long : length lines ≡ s.threads = length-map-range_with_len of_line 0 s.threads in
     dite (dec_lt k s.threads)
-    (λ lt. t.threads k lt ∙ sym (get_or-append lines (asks_to_run a.frames ∷ a.posted ∷ []) [] k (omega (arith, lt, long)) ∙ get_or-map-range_with_len of_line 0 s.threads k k [] lt (omega arith)))
+    (λ lt. t.threads k lt ∙ sym (get_or-append lines (a.asked ∷ []) [] k (omega (arith, lt, long)) ∙ get_or-map-range_with_len of_line 0 s.threads k k [] lt (omega arith)))
     (λ above.
     let j : ℕ = k - s.threads in
     let at : k ≡ s.threads + j = omega (arith, above) in
     ap (λ (n : ℕ). asks_in (dealt_to n t.made)) at
-    ∙ (by_two (asks_to_run a.frames) a.posted (λ n. asks_in (dealt_to (s.threads + n) t.made)) (ap (λ (n : ℕ). asks_in (dealt_to n t.made)) (omega arith) ∙ t.ran) t.posted
+    ∙ (by_one a.asked (λ n. asks_in (dealt_to (s.threads + n) t.made)) (ap (λ (n : ℕ). asks_in (dealt_to n t.made)) (omega arith) ∙ t.looper)
     (λ n le. ap asks_in (t.idle (s.threads + n) (omega (arith, le)))) j
-    ∙ sym (get_or-append_right lines (asks_to_run a.frames ∷ a.posted ∷ []) s.threads k [] long (omega (arith, above)))))
+    ∙ sym (get_or-append_right lines (a.asked ∷ []) s.threads k [] long (omega (arith, above)))))
 
 -- lists of the same over a range
 range_same : {X : Type 0} (f g : ℕ → X) (a n : ℕ) → ((i : ℕ) → i < a + n → f i ≡ g i) → map f (range_with_len a n) ≡ map g (range_with_len a n)
@@ -159,40 +156,40 @@ module _ (lockstep : Bool) (s : Script) (q : ℕ) (kits : List Kit) (d : Kit) (p
   told_of_all [] = refl
   told_of_all (x ∷ xs) = ap (λ l. told_by x ∷ l) (told_of_all xs)
 
-  -- each thread's pass, the looper's two and the controller's
+  -- each thread's pass, the looper's and the controller's
   abbrev pub first : ℕ → Pass
   first k = slice_index_or (slice_index_or kits k d).frames.items q p
 
-  abbrev pub mine : ℕ → Pass
-  mine i = slice_index_or (slice_index_or kits (s.threads + q) d).frames.items i p
+  abbrev pub mine : Pass
+  mine = slice_index_or (slice_index_or kits (s.threads + q) d).frames.items 0 p
 
   abbrev pub last : Pass
   last = slice_index_or (slice_index_or kits (s.threads + s.loopers) d).frames.items q p
 
-  -- where the passes asked for what the threads' lines ask for, for the frames that the looper runs and for what it posts, they asked for what the run asks for
+  -- where the passes asked for what the threads' lines ask for and for what the looper asks, they asked for what the run asks for
   asked_by_each : ((k : ℕ) → k < s.threads → told (pass_asks (first k)) ≡ told (lines_ask q (lines_of k s.blocks)))
-      → told (pass_asks (mine 0)) ≡ told (asks_to_run a.frames) → told (pass_asks (mine 1)) ≡ told a.posted → last.view.own ≡ []
+      → told (pass_asks mine) ≡ told a.asked → last.view.own ≡ []
       → map told_by (passes_at s q q kits d p) ≡ map (map (as_told lockstep)) (asked_of s q a) ++ [] ∷ []
-  asked_by_each threads ran posted idle =
+  asked_by_each threads looper idle =
       let of_line : ℕ → List FrameAsk = λ k. lines_ask q (lines_of k s.blocks) in
       let numbers : List ℕ = range_with_len 0 s.threads in
       let firsts : map told_by (map first numbers) ≡ map (map (as_told lockstep)) (map of_line numbers) =
       map_both first told_by numbers ∙ (range_same (λ k. told_by (first k)) (λ k. told (of_line k)) 0 s.threads (λ k lt. threads k (omega (arith, lt))) ∙ sym (map_both of_line (map (as_told lockstep)) numbers)) in
       let idle_told : told_by last ≡ [] = ap (λ (l : List FrameEntry). told (filter_map asked_in l)) idle in
-      map-append told_by (map first numbers) (mine 0 ∷ mine 1 ∷ last ∷ [])
-      ∙ ((λ i. firsts i ++ ran i ∷ posted i ∷ idle_told i ∷ [])
-      ∙ (sym (append_assoc (map (map (as_told lockstep)) (map of_line numbers)) (told (asks_to_run a.frames) ∷ told a.posted ∷ []) ([] ∷ []))
-      ∙ ap (λ l. l ++ [] ∷ []) (sym (map-append (map (as_told lockstep)) (map of_line numbers) (asks_to_run a.frames ∷ a.posted ∷ [])))))
+      map-append told_by (map first numbers) (mine ∷ last ∷ [])
+      ∙ ((λ i. firsts i ++ looper i ∷ idle_told i ∷ [])
+      ∙ (sym (append_assoc (map (map (as_told lockstep)) (map of_line numbers)) (told a.asked ∷ []) ([] ∷ []))
+      ∙ ap (λ l. l ++ [] ∷ []) (sym (map-append (map (as_told lockstep)) (map of_line numbers) (a.asked ∷ [])))))
 
   -- and the frame record, whose entries are parted among the passes, was asked for that
   asked_by : (entries : List FrameEntry) → AreHeard entries (passes_at s q q kits d p) → ((k : ℕ) → k < s.threads → told (pass_asks (first k)) ≡ told (lines_ask q (lines_of k s.blocks)))
-      → told (pass_asks (mine 0)) ≡ told (asks_to_run a.frames) → told (pass_asks (mine 1)) ≡ told a.posted → last.view.own ≡ [] → AreAskedBy lockstep (asks_in entries) (asked_of s q a)
-  asked_by entries heard threads ran posted idle =
+      → told (pass_asks mine) ≡ told a.asked → last.view.own ≡ [] → AreAskedBy lockstep (asks_in entries) (asked_of s q a)
+  asked_by entries heard threads looper idle =
       let passes : List Pass = passes_at s q q kits d p in
       let asks = parted_given asked_in entries (map own_of passes) (heard.made, heard.made_are, heard.theirs) in
       let tells = parted_given (λ (x : FrameAsk). Some (as_told lockstep x)) (asks_in entries) (map (filter_map asked_in) (map own_of passes)) asks in
       let parts : map (filter_map (λ (x : FrameAsk). Some (as_told lockstep x))) (map (filter_map asked_in) (map own_of passes)) ≡ map (map (as_told lockstep)) (asked_of s q a) ++ [] ∷ [] =
-      some_are_maps (as_told lockstep) (map (filter_map asked_in) (map own_of passes)) ∙ (told_of_all passes ∙ asked_by_each threads ran posted idle) in (
+      some_are_maps (as_told lockstep) (map (filter_map asked_in) (map own_of passes)) ∙ (told_of_all passes ∙ asked_by_each threads looper idle) in (
         tells.0,
         tells.1 ∙ some_is_map (as_told lockstep) (asks_in entries),
         λ k. tells.2 k ∙ (ap (λ (l : List (List FrameAsk)). slice_index_or l k []) parts ∙ empty_last (map (map (as_told lockstep)) (asked_of s q a)) k),
@@ -200,24 +197,24 @@ module _ (lockstep : Bool) (s : Script) (q : ℕ) (kits : List Kit) (d : Kit) (p
 
   -- what the passes recorded beside each number, as told
   each_asked : ((k : ℕ) → k < s.threads → told (pass_asks (first k)) ≡ told (lines_ask q (lines_of k s.blocks)))
-      → told (pass_asks (mine 0)) ≡ told (asks_to_run a.frames) → told (pass_asks (mine 1)) ≡ told a.posted → last.view.own ≡ []
+      → told (pass_asks mine) ≡ told a.asked → last.view.own ≡ []
       → (k : ℕ) → told (asks_in (slice_index_or (map own_of (passes_at s q q kits d p)) k [])) ≡ slice_index_or (map (map (as_told lockstep)) (asked_of s q a)) k []
-  each_asked threads ran posted idle k =
+  each_asked threads looper idle k =
       let passes : List Pass = passes_at s q q kits d p in
       part_mapped (λ (es : List FrameEntry). told (asks_in es)) (map own_of passes) k refl
-      ∙ (ap (λ (l : List (List FrameAsk)). slice_index_or l k []) (map_both own_of (λ (es : List FrameEntry). told (asks_in es)) passes ∙ asked_by_each threads ran posted idle)
+      ∙ (ap (λ (l : List (List FrameAsk)). slice_index_or l k []) (map_both own_of (λ (es : List FrameEntry). told (asks_in es)) passes ∙ asked_by_each threads looper idle)
       ∙ empty_last (map (map (as_told lockstep)) (asked_of s q a)) k)
 
   -- the controller's pass is the last one
   last_heard : (made : List (ℕ × FrameEntry)) → ((k : ℕ) (e : Pass) → k < length (passes_at s q q kits d p) → IsPrefix (slice_index_or (passes_at s q q kits d p) k e).view.heard made) → IsPrefix last.view.heard made
   last_heard made begins =
       let these : List Pass = map first (range_with_len 0 s.threads) in
-      let rest : List Pass = mine 0 ∷ mine 1 ∷ last ∷ [] in
+      let rest : List Pass = mine ∷ last ∷ [] in
       let long : length these ≡ s.threads = length-map-range_with_len first 0 s.threads in
-      let all : length (these ++ rest) ≡ length these + 3 = length-append these rest in
-      let place : s.threads + 2 - s.threads ≡ 2 = omega arith in
-      let is : slice_index_or (these ++ rest) (s.threads + 2) p ≡ last = get_or-append_right these rest s.threads (s.threads + 2) p long (omega arith) ∙ ap (λ (n : ℕ). slice_index_or rest n p) place in
-      subst (λ (x : Pass). IsPrefix x.view.heard made) is (begins (s.threads + 2) p (omega (arith, all, long)))
+      let all : length (these ++ rest) ≡ length these + 2 = length-append these rest in
+      let place : s.threads + 1 - s.threads ≡ 1 = omega arith in
+      let is : slice_index_or (these ++ rest) (s.threads + 1) p ≡ last = get_or-append_right these rest s.threads (s.threads + 1) p long (omega arith) ∙ ap (λ (n : ℕ). slice_index_or rest n p) place in
+      subst (λ (x : Pass). IsPrefix x.view.heard made) is (begins (s.threads + 1) p (omega (arith, all, long)))
 
 -- in lockstep a frame record was asked for in turn, where its entries are parted among the passes, which asked for what the run asks for, and what was asked so far
 -- was asked in turn by those who ask, for that
@@ -237,18 +234,17 @@ asked_in_step s q kits d p a entries h theirs t =
     ∙ (ap (λ l. asks_in (second t.made) ++ l) (sym none)
     ∙ (sym (filter_map-append asked_in (second t.made) (second more))
     ∙ (ap asks_in (sym (map-append (λ (x : ℕ × FrameEntry). x.1) t.made more)) ∙ (ap (λ (l : List (ℕ × FrameEntry)). asks_in (second l)) front.1 ∙ ap asks_in h.made_are)))) in
-    subst (λ (asks : List FrameAsk). AreAskedInTurn true asks (asked_then s q a)) whole (all_asked s q t.until t.made a t.asked t.ran t.posted t.idle)
+    subst (λ (asks : List FrameAsk). AreAskedInTurn true asks (asked_then s q a)) whole (all_asked s q t.until t.made a t.asked t.looper t.idle)
 
 -- a frame record, whose entries are parted among the passes, was asked for in turn by those who ask
 pub asked_by_all : (lockstep : Bool) (s : Script) (q : ℕ) (kits : List Kit) (d : Kit) (p : Pass) (a : LooperState) (entries : List FrameEntry) → AreHeard entries (passes_at s q q kits d p)
     → ((k : ℕ) → k < s.threads → told lockstep s q kits d p a (pass_asks (first lockstep s q kits d p a k)) ≡ told lockstep s q kits d p a (lines_ask q (lines_of k s.blocks)))
-    → told lockstep s q kits d p a (pass_asks (mine lockstep s q kits d p a 0)) ≡ told lockstep s q kits d p a (asks_to_run a.frames)
-    → told lockstep s q kits d p a (pass_asks (mine lockstep s q kits d p a 1)) ≡ told lockstep s q kits d p a a.posted
+    → told lockstep s q kits d p a (pass_asks (mine lockstep s q kits d p a)) ≡ told lockstep s q kits d p a a.asked
     → (last lockstep s q kits d p a).view.own ≡ [] → MatchBool lockstep (HasAskedInTurn s q (last lockstep s q kits d p a) a) (Unit {0}) → AreAskedInTurn lockstep (asks_in entries) (asked_then s q a)
-asked_by_all false s q kits d p a entries h threads ran posted idle t =
-    parted_in_turn (asks_in entries) (asked_then s q a) (subst (AreAskedBy false (asks_in entries)) (sym (then_asks s q a)) (asked_by false s q kits d p a entries h threads ran posted idle))
-asked_by_all true s q kits d p a entries h threads ran posted idle t =
+asked_by_all false s q kits d p a entries h threads looper idle t =
+    parted_in_turn (asks_in entries) (asked_then s q a) (subst (AreAskedBy false (asks_in entries)) (sym (then_asks s q a)) (asked_by false s q kits d p a entries h threads looper idle))
+asked_by_all true s q kits d p a entries h threads looper idle t =
     asked_in_step s q kits d p a entries h (λ k.
     sym (told_whole (asks_in (slice_index_or (map own_of (passes_at s q q kits d p)) k [])))
-    ∙ (each_asked true s q kits d p a threads ran posted idle k
+    ∙ (each_asked true s q kits d p a threads looper idle k
     ∙ (sym (part_mapped (map (as_told true)) (asked_of s q a) k refl) ∙ told_whole (slice_index_or (asked_of s q a) k [])))) t

@@ -6,7 +6,6 @@ use Rattle.choreographer.specs.Known.{Pass}
 use Rattle.dash_script.specs.declared.script.Script.{Script}
 use Rattle.run_model.specs.Loopers.{LooperState}
 use Rattle.run_model.specs.FrameRecords.{asks_in, in_round}
-use Rattle.run_model.specs.Parts.{asks_to_run}
 use Rattle.dash_hall.specs.Hearing.{HaveHeardAllAt}
 use Rattle.dash_hall.specs.Hosts.{pass_asks}
 use Rattle.dash_hall.proofs.FramePosts.{told_whole}
@@ -35,9 +34,9 @@ module _ (s : Script) (st : Stage) (is : IsStage s st) (run : HaveRunInLockstep 
       let all = now.turn.same k few in
       let there = ap rest_in parts.1 in
       let rest : LooperRest = record { frames = parts.0.frames; root = parts.0.root; fired = parts.0.fired.items; passed = parts.0.passed; awaits = parts.0.awaits } in
-      let same : all.0 ≡ was.made = sym (all.1.looper l lt rest there).0.1 ∙ (was.looper l lt rest there).0.1 in
+      let same : all.0 ≡ was.made = sym (all.1.looper l lt rest there).1 ∙ (was.looper l lt rest there).1 in
       let made = looper_made s st is k few was.made l parts.0 lt (was.looper l lt) parts.1 in
-      let stands = subst (λ (o : Option Parts). IsSomeAnd o (λ z. StandsBy true s x.number x.sender x.looper.held.poster.view.seen x.looper.held.journal.acts z a a)) parts.1 come.0 in
+      let stands = subst (λ (o : Option Parts). IsSomeAnd o (λ z. StandsBy true s x.number x.sender x.looper.held.poster.view.seen x.looper.held.journal.acts z a)) parts.1 come.0 in
       record {
         made = was.made;
         heard = (all.1.controller p (in_controller s st is k few)).1 ∙ same;
@@ -48,7 +47,6 @@ module _ (s : Script) (st : Stage) (is : IsStage s st) (run : HaveRunInLockstep 
             let near : n < length st.threads.items = omega (arith, below, threads) in
             let t = some_of st.threads.items n near in
             thread_asked s st is k few was.made s.blocks run n t near (was.threads n t near);
-        ran = ap asks_in made.0 ∙ (sym (told_whole (pass_asks parts.0.frames)) ∙ (stands.ran ∙ told_whole (asks_to_run a.frames)));
-        posted = ap asks_in made.1 ∙ stands.played.shown.asked;
+        looper = ap asks_in made ∙ (sym (told_whole (pass_asks parts.0.frames)) ∙ (stands.played.shown.asked ∙ told_whole a.asked));
         idle = idle_made s st is k few was.made (subst (λ (m : List (ℕ × FrameEntry)). HaveHeardAllAt k m st.controller.kit.frames.items) same all.1.controller);
       }

@@ -28,7 +28,7 @@ use Rattle.dash_threads.specs.declared.thread.PostingThread.{PostingThread}
 use Rattle.dash_threads.specs.Threads.{ThreadKeeps}
 use Rattle.dash_loopers.specs.declared.player.Parts.{Parts}
 use Rattle.dash_loopers.specs.declared.looper.StageLooper.{StageLooper}
-use Rattle.dash_loopers.specs.Loopers.{ArePartsOf, LooperRest, rest_in, LooperKeeps, OfItsPasses}
+use Rattle.dash_loopers.specs.Loopers.{ArePartsOf, LooperRest, rest_in, LooperKeeps, OfItsPass}
 use Rattle.dash_loopers.proofs.LooperPasses.{unheard_all}
 use Rattle.dash_stage.specs.declared.stage.Stage.{Stage}
 use Rattle.dash_stage.specs.Asking.{AllAskedInTurn, AskInTurn, AskUpToNow}
@@ -88,7 +88,7 @@ module _ (s : Script) (st : Stage) (is : IsStage s st) (q : ℕ) (few : q < s.lo
   -- so has the controller
   pub in_controller : q < length st.controller.kit.frames.items
   in_controller =
-      let count = alike_length frame_badge_of (frame_badge_for (s.threads + 2)) st.controller.kit.frames.items choreographers is.controller.frames in
+      let count = alike_length frame_badge_of (frame_badge_for (s.threads + 1)) st.controller.kit.frames.items choreographers is.controller.frames in
       let all = in_choreographers in
       omega (arith, count, all)
 
@@ -107,9 +107,9 @@ module _ (s : Script) (st : Stage) (is : IsStage s st) (q : ℕ) (few : q < s.lo
         let badge = alike_at frame_badge_of (frame_badge_for x.number) x.kit.frames.items choreographers one.0.frames q p (some_of choreographers q in_choreographers) within in
         own_made (slice_index_or x.kit.frames.items q p) k (heard p within) (ap (λ (b : FrameBadge). b.number) badge ∙ one.1)
 
-    -- the looper's two
-    pub looper_made : (l : StageLooper) (parts : Parts) → q < length st.loopers.items → OfItsPasses (HasHeardAll made) (slice_index_or st.loopers.items q l)
-        → (slice_index_or st.loopers.items q l).parts ≡ Some parts → (dealt_to s.threads made ≡ parts.frames.view.own) × (dealt_to (s.threads + 1) made ≡ parts.root.pass.view.own)
+    -- the looper's
+    pub looper_made : (l : StageLooper) (parts : Parts) → q < length st.loopers.items → OfItsPass (HasHeardAll made) (slice_index_or st.loopers.items q l)
+        → (slice_index_or st.loopers.items q l).parts ≡ Some parts → dealt_to s.threads made ≡ parts.frames.view.own
     looper_made l parts lt heard at =
         let x = slice_index_or st.loopers.items q l in
         let one = is.loopers.1 q l lt in
@@ -118,23 +118,21 @@ module _ (s : Script) (st : Stage) (is : IsStage s st) (q : ℕ) (few : q < s.lo
         ∙ slice_get_read choreographers (length choreographers) q c refl in_choreographers (sym (get_or_default choreographers q c (some_of choreographers q in_choreographers) in_choreographers)) in
         let p = looper_parts s st.hall is.hall x one.0 in
         let are : ArePartsOf s st.hall x.number parts = subst (ArePartsOf s st.hall x.number) (same_Some _ _ (sym p.1 ∙ at)) p.2 in
-        let both = heard (record { frames = parts.frames; root = parts.root; fired = parts.fired.items; passed = parts.passed; awaits = parts.awaits }) (ap rest_in at) in (
-          own_made parts.frames s.threads both.0 (ap (λ (b : FrameBadge). b.number) (are.frames c read)),
-          own_made parts.root.pass (s.threads + 1) both.1 (ap (λ (b : FrameBadge). b.number) (are.client c read)),
-        )
+        own_made parts.frames s.threads (heard (record { frames = parts.frames; root = parts.root; fired = parts.fired.items; passed = parts.passed; awaits = parts.awaits }) (ap rest_in at))
+        (ap (λ (b : FrameBadge). b.number) (are.frames c read))
 
     -- nobody behind them recorded anything
-    pub idle_made : HaveHeardAllAt q made st.controller.kit.frames.items → (k : ℕ) → s.threads + 2 ≤ k → dealt_to k made ≡ []
+    pub idle_made : HaveHeardAllAt q made st.controller.kit.frames.items → (k : ℕ) → s.threads + 1 ≤ k → dealt_to k made ≡ []
     idle_made heard k le =
         let ps = st.controller.kit.frames.items in
         let c = some_of choreographers q in_choreographers in
         let p = some_of ps q in_controller in
         let mine = slice_index_or ps q p in
         let key = (slice_index_or choreographers q c).constants in
-        let badge = alike_at frame_badge_of (frame_badge_for (s.threads + 2)) ps choreographers is.controller.frames q p c in_controller in
+        let badge = alike_at frame_badge_of (frame_badge_for (s.threads + 1)) ps choreographers is.controller.frames q p c in_controller in
         let h = heard p in_controller in
         let passes = ap (λ (z : FrameConstants). z.passes) (choreographer_at s choreographers is.hall.choreographers q c few) in
-        dite (ℕ_discrete k (s.threads + 2))
+        dite (ℕ_discrete k (s.threads + 1))
         (λ here. own_made mine k h (ap (λ (b : FrameBadge). b.number) badge ∙ sym here) ∙ is.controller.idle q p in_controller)
         (λ behind. ap (λ (l : List (ℕ × FrameEntry)). dealt_to k l) (sym h.1) ∙ h.0.numbers key (ap (λ (b : FrameBadge). b.constants) badge) k (omega (arith, passes, le, behind)))
 
@@ -159,7 +157,7 @@ module _ (s : Script) (st st' : Stage) (is : IsStage s st) (is' : IsStage s st')
     in_after : q < length st'.loopers.items
     in_after = let count = is'.loopers.0 in omega (arith, few, count)
 
-    -- what the looper's passes were, and are
+    -- what the looper's pass was, and is
     its_looper : StageLooper
     its_looper = some_of st.loopers.items q in_before
 
@@ -178,21 +176,21 @@ module _ (s : Script) (st st' : Stage) (is : IsStage s st) (is' : IsStage s st')
     abbrev rest_of : Parts → LooperRest
     rest_of p = record { frames = p.frames; root = p.root; fired = p.fired.items; passed = p.passed; awaits = p.awaits }
 
-    heard_on : PassHasHeard its_parts.0.frames its_parts'.0.frames × PassHasHeard its_parts.0.root.pass its_parts'.0.root.pass
+    heard_on : PassHasHeard its_parts.0.frames its_parts'.0.frames
     heard_on =
         let more = (loopers.each q its_looper in_before).rest (rest_of its_parts.0) (ap rest_in its_parts.1) in
         let is_rest : more.0 ≡ rest_of its_parts'.0 = same_Some _ _ (sym more.1 ∙ ap rest_in its_parts'.1) in
-        (subst (λ (r : LooperRest). PassHasHeard its_parts.0.frames r.frames) is_rest more.2.frames, subst (λ (r : LooperRest). PassHasHeard its_parts.0.root.pass r.root.pass) is_rest more.2.client)
+        subst (λ (r : LooperRest). PassHasHeard its_parts.0.frames r.frames) is_rest more.2.frames
 
     -- what was heard goes on from what was heard before
-    front : (made made' : List (ℕ × FrameEntry)) → OfItsPasses (HasHeardAll made) before → OfItsPasses (HasHeardAll made') after → IsPrefix made made'
+    front : (made made' : List (ℕ × FrameEntry)) → OfItsPass (HasHeardAll made) before → OfItsPass (HasHeardAll made') after → IsPrefix made made'
     front made made' heard heard' =
-        let was = (heard (rest_of its_parts.0) (ap rest_in its_parts.1)).0.1 in
-        let now = (heard' (rest_of its_parts'.0) (ap rest_in its_parts'.1)).0.1 in
-        subst (λ (l : List (ℕ × FrameEntry)). IsPrefix l made') was (subst (IsPrefix its_parts.0.frames.view.heard) now heard_on.0.more)
+        let was = (heard (rest_of its_parts.0) (ap rest_in its_parts.1)).1 in
+        let now = (heard' (rest_of its_parts'.0) (ap rest_in its_parts'.1)).1 in
+        subst (λ (l : List (ℕ × FrameEntry)). IsPrefix l made') was (subst (IsPrefix its_parts.0.frames.view.heard) now heard_on.more)
 
     -- the loopers and the controller recorded nothing
-    others_idle : (made : List (ℕ × FrameEntry)) → OfItsPasses (HasHeardAll made) before → (now : (whole : List (ℕ × FrameEntry)) × HavePassesHeard q whole st')
+    others_idle : (made : List (ℕ × FrameEntry)) → OfItsPass (HasHeardAll made) before → (now : (whole : List (ℕ × FrameEntry)) × HavePassesHeard q whole st')
         → (k : ℕ) → s.threads ≤ k → dealt_to k now.0 ≡ dealt_to k made
     others_idle made heard now k le =
         let here = now.1.looper its_looper in_after in
@@ -200,10 +198,8 @@ module _ (s : Script) (st st' : Stage) (is : IsStage s st) (is' : IsStage s st')
         let made_now = looper_made s st' is' q few now.0 its_looper its_parts'.0 in_after here its_parts'.1 in
         let idle = idle_made s st' is' q few now.0 now.1.controller in
         dite (ℕ_discrete k s.threads)
-        (λ first. subst (λ (n : ℕ). dealt_to n now.0 ≡ dealt_to n made) (sym first) (made_now.0 ∙ (heard_on.0.same.own ∙ sym was.0)))
-        (λ later. dite (ℕ_discrete k (s.threads + 1))
-        (λ second. subst (λ (n : ℕ). dealt_to n now.0 ≡ dealt_to n made) (sym second) (made_now.1 ∙ (heard_on.1.same.own ∙ sym was.1)))
-        (λ behind. let all : s.threads + 2 ≤ k = omega (arith, le, later, behind) in idle k all ∙ sym (idle_front k made now.0 (front made now.0 heard here) (idle k all))))
+        (λ first. subst (λ (n : ℕ). dealt_to n now.0 ≡ dealt_to n made) (sym first) (made_now ∙ (heard_on.same.own ∙ sym was)))
+        (λ behind. let all : s.threads + 1 ≤ k = omega (arith, le, behind) in idle k all ∙ sym (idle_front k made now.0 (front made now.0 heard here) (idle k all)))
 
   -- where the threads recorded nothing, all is as it was
   pub asks_nothing : AtEach (ThreadKeeps HaveHeard) st.threads.items st'.threads.items → (past : List Block) (last : ℕ) → AllAskedInTurn s past last st → AskInTurn s past last st'

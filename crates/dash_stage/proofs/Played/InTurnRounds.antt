@@ -10,7 +10,6 @@ use Rattle.dash_script.specs.declared.script.Block.{Block}
 use Rattle.dash_script.specs.declared.script.Script.{Script}
 use Rattle.dash_script.specs.Reading.{HasText}
 use Rattle.run_model.specs.FrameRecords.{FrameAsk, asks_in, in_round, asked_for}
-use Rattle.run_model.specs.Parts.{asks_to_run}
 use Rattle.run_model.specs.AskedSoFar.{HaveAsked, asked_so_far}
 use Rattle.run_model.proofs.AskedInTurn.{round_asked}
 use Rattle.dash_hall.specs.Hearing.{AtEach, HaveHeard, HasHeardAll, HaveHeardAllAt, PassesHaveHeard}
@@ -18,7 +17,7 @@ use Rattle.dash_threads.specs.declared.thread.PostingThread.{PostingThread}
 use Rattle.dash_threads.specs.Threads.{ThreadKeeps}
 use Rattle.dash_loopers.specs.declared.player.Parts.{Parts}
 use Rattle.dash_loopers.specs.declared.looper.StageLooper.{StageLooper}
-use Rattle.dash_loopers.specs.Loopers.{ArePartsOf, rest_in, OfItsPasses}
+use Rattle.dash_loopers.specs.Loopers.{ArePartsOf, rest_in, OfItsPass}
 use Rattle.dash_loopers.proofs.LooperAsks.{AskAt, asked_for_time}
 use Rattle.dash_stage.specs.declared.stage.Stage.{Stage}
 use Rattle.dash_stage.specs.Sharing.{HavePassesHeard, HaveHeardTheSame}
@@ -57,16 +56,16 @@ module _ (s : Script) (text : HasText s) (st st' : Stage) (is : IsStage s st) (i
     its_parts' : (parts : Parts) × (after.parts ≡ Some parts) × ArePartsOf s st'.hall after.number parts
     its_parts' = looper_parts s st'.hall is'.hall after (is'.loopers.1 q its_looper in_after).0
 
-    -- two lists that the looper's passes have heard are one
-    one_heard : (made whole : List (ℕ × FrameEntry)) → OfItsPasses (HasHeardAll made) before → OfItsPasses (HasHeardAll whole) before → whole ≡ made
+    -- two lists that the looper's pass has heard are one
+    one_heard : (made whole : List (ℕ × FrameEntry)) → OfItsPass (HasHeardAll made) before → OfItsPass (HasHeardAll whole) before → whole ≡ made
     one_heard made whole heard all =
         let p = its_parts.0 in
         let there = ap rest_in its_parts.1 in
-        sym (all (record { frames = p.frames; root = p.root; fired = p.fired.items; passed = p.passed; awaits = p.awaits }) there).0.1
-        ∙ (heard (record { frames = p.frames; root = p.root; fired = p.fired.items; passed = p.passed; awaits = p.awaits }) there).0.1
+        sym (all (record { frames = p.frames; root = p.root; fired = p.fired.items; passed = p.passed; awaits = p.awaits }) there).1
+        ∙ (heard (record { frames = p.frames; root = p.root; fired = p.fired.items; passed = p.passed; awaits = p.awaits }) there).1
 
     -- what was heard goes on from what was heard before, as the controller's pass tells
-    front : (made : List (ℕ × FrameEntry)) → OfItsPasses (HasHeardAll made) before → (was : (whole : List (ℕ × FrameEntry)) × HavePassesHeard q whole st)
+    front : (made : List (ℕ × FrameEntry)) → OfItsPass (HasHeardAll made) before → (was : (whole : List (ℕ × FrameEntry)) × HavePassesHeard q whole st)
         → (now : (whole : List (ℕ × FrameEntry)) × HavePassesHeard q whole st') → IsPrefix made now.0
     front made heard was now =
         let within = in_controller s st is q few in
@@ -90,7 +89,7 @@ module _ (s : Script) (text : HasText s) (st st' : Stage) (is : IsStage s st) (i
         ∙ (((threads.each k t near).frames.each q p within).same.own ∙ sym (thread_made s st is q few made k t p near (heard k t near)))
 
     -- what the others asked for was for the time
-    others_ask : AreSound s st'.controller → st.time ≤ s.end → (made : List (ℕ × FrameEntry)) → OfItsPasses (HasHeardAll made) before → (now : (whole : List (ℕ × FrameEntry)) × HavePassesHeard q whole st')
+    others_ask : AreSound s st'.controller → st.time ≤ s.end → (made : List (ℕ × FrameEntry)) → OfItsPass (HasHeardAll made) before → (now : (whole : List (ℕ × FrameEntry)) × HavePassesHeard q whole st')
         → IsPrefix made now.0 → (k : ℕ) → s.threads ≤ k
         → (more : List FrameAsk) × (asks_in (dealt_to k now.0) ≡ asks_in (dealt_to k made) ++ more) × AllByRecursion (λ (a : FrameAsk). asked_for a ≡ st.time) more
     others_ask sound within made heard now goes k le =
@@ -102,12 +101,10 @@ module _ (s : Script) (text : HasText s) (st st' : Stage) (is : IsStage s st) (i
         let limit = ends_early s text in
         let at = asked_for_time st.time (omega (arith, within, limit)) its_parts.0 its_parts'.0 x in
         dite (ℕ_discrete k s.threads)
-        (λ first. subst (λ (n : ℕ). Asked n) (sym first) (asks_to_run x.ran, ap asks_in is_now.0 ∙ (x.run ∙ ap (λ (es : List FrameEntry). asks_in es ++ asks_to_run x.ran) (sym was.0)), at.1))
-        (λ later. dite (ℕ_discrete k (s.threads + 1))
-        (λ second. subst (λ (n : ℕ). Asked n) (sym second) (x.posts, ap asks_in is_now.1 ∙ (x.posted ∙ ap (λ (es : List FrameEntry). asks_in es ++ x.posts) (sym was.1)), at.0))
+        (λ first. subst (λ (n : ℕ). Asked n) (sym first) (x.asks, ap asks_in is_now ∙ (x.asked ∙ ap (λ (es : List FrameEntry). asks_in es ++ x.asks) (sym was)), at))
         (λ behind.
-        let all : s.threads + 2 ≤ k = omega (arith, le, later, behind) in
-        ([], ap asks_in (idle k all ∙ sym (idle_front k made now.0 goes (idle k all))) ∙ sym (append-nil (asks_in (dealt_to k made))), tt)))
+        let all : s.threads + 1 ≤ k = omega (arith, le, behind) in
+        ([], ap asks_in (idle k all ∙ sym (idle_front k made now.0 goes (idle k all))) ∙ sym (append-nil (asks_in (dealt_to k made))), tt))
       where
         Asked : ℕ → Type 0
         Asked n = (more : List FrameAsk) × (asks_in (dealt_to n now.0) ≡ asks_in (dealt_to n made) ++ more) × AllByRecursion (λ (a : FrameAsk). asked_for a ≡ st.time) more

@@ -1,5 +1,5 @@
 -- Where the loopers stood is told by their journals and kits.
-use Rattle.std.proofs.Common.{◌≡◌, ◌<◌, ◌+◌, ℕ, false, List, [], ◌∷◌, ◌++◌, length, drop, refl, sym, ap, ◌∙◌, subst, arith, slice_index_or}
+use Rattle.std.proofs.Common.{◌≡◌, ◌<◌, ◌+◌, ℕ, true, false, List, [], ◌∷◌, ◌++◌, length, drop, refl, sym, ap, ◌∙◌, subst, arith, slice_index_or}
 use mathlib.Core.Logic.{dite}
 use native.Mathlib.Decide.{dec_lt}
 use Rattle.std.specs.List.{remove}
@@ -12,7 +12,7 @@ use Rattle.run_model.specs.Loopers.{LooperState}
 use Rattle.dash_hall.specs.declared.kit.Kit.{Kit}
 use Rattle.dash_loopers.specs.declared.looper.StageLooper.{StageLooper}
 use Rattle.dash_loopers.specs.Loopers.{is_given_up, HasDisposedLast}
-use Rattle.dash_loopers.specs.Played.{StandsBetweenRounds, HasLeft, StandsBetweenLoops, HasLeftBy}
+use Rattle.dash_loopers.specs.Played.{StandsBetweenRounds, StandsBetweenLoops, HasLeft}
 use Rattle.dash_stage.specs.Leaving.{HasGiven, HaveGiven}
 
 -- without the first one
@@ -54,8 +54,8 @@ module _ (s : Script) (all : List StageLooper) where
 
   -- one looper more has given its journal and its kit back
   pub given_back : (js js' : List Journal) (ls ls' : List StageLooper) (kits kits' : List Kit) (l : StageLooper) (j : Journal) (kit : Kit) → 0 < length ls → l ≡ slice_index_or ls 0 l → ls' ≡ remove ls 0
-      → length kits ≡ s.threads + length js → l.number ≡ length js → ((a : LooperState) → StandsBetweenRounds s l a → HasLeft s l.number j kit a)
-      → ((did a : LooperState) → StandsBetweenLoops s l did a → HasLeftBy s l.number j kit a) → (is_given_up l.last ≡ false → HasDisposedLast s l.number kit)
+      → length kits ≡ s.threads + length js → l.number ≡ length js → ((a : LooperState) → StandsBetweenRounds s l a → HasLeft true s l.number j kit a)
+      → ((a : LooperState) → StandsBetweenLoops s l a → HasLeft false s l.number j kit a) → (is_given_up l.last ≡ false → HasDisposedLast s l.number kit)
       → js' ≡ js ++ j ∷ [] → kits' ≡ kits ++ kit ∷ [] → ls ≡ drop (length js) all → HaveGiven s all js kits → (ls' ≡ drop (length js') all) × HaveGiven s all js' kits'
   given_back js js' ls ls' kits kits' l j kit some is_l rest count number left left_by disposes grown grown' are before = (
     rest

@@ -1,8 +1,8 @@
 -- The records are those of the loopers' runs: each looper's calls, frame callbacks and paints are those that its acts cause.
 use Rattle.std.proofs.Common.{◌≡◌, ◌≢◌, ◌<◌, ◌≤◌, ◌+◌, ◌-◌, ℕ, zero, suc, Bool, true, false, List, [], ◌∷◌, ◌++◌, map, length, refl, sym, ap, ◌∙◌, subst, arith, slice_index_or, append-nil, Some, inl, inr}
-use Rattle.std.specs.Prelude.{◌==◌, ◌||◌, nat_le, if◌then◌else◌, MatchBool}
+use Rattle.std.specs.Prelude.{◌==◌, ◌||◌, if◌then◌else◌, MatchBool}
 use Rattle.std.specs.List.{AllByRecursion, filter_map}
-use Rattle.std.proofs.lemmas.Bool.{and_parts, and_from, eq-eqb, eqb-true, ne_eqb, le-leb}
+use Rattle.std.proofs.lemmas.Bool.{and_parts, eq-eqb, eqb-true, ne_eqb}
 use Rattle.std.proofs.lemmas.List.{map-append, get_or_default, length-replicate}
 use mathlib.Core.Logic.{dite}
 use mathlib.Core.List.{IsPrefix}
@@ -29,8 +29,8 @@ use Rattle.run_model.specs.AskedSoFar.{tokens_in}
 use Rattle.run_model.specs.Moments.{Mode, IfLockstep}
 use Rattle.run_model.specs.Control.{AnyTime, Timing, befores, are_on_time, are_controls, is_controlled}
 use Rattle.run_model.specs.Parts.{is_quit_by_others, disposed_count, sent_on}
-use Rattle.run_model.specs.Loopers.{LooperState, SentCall, first_looper, ActsLead, closing, IsSent, asked_then, has_frames}
-use Rattle.run_model.specs.FrameRecords.{are_whole, are_run_then, asks_in, AreAskedInTurn}
+use Rattle.run_model.specs.Loopers.{LooperState, SentCall, first_looper, ActsLead, closing, IsSent, asked_then, has_frames, pulses_come_first}
+use Rattle.run_model.specs.FrameRecords.{asks_in, AreAskedInTurn}
 use Rattle.run_model.specs.Run.{IsAsPlanned, IsControlled, IsLooperRun, IsFrameRun, EachLooper, record_setting, caused_on}
 use Rattle.run_model.proofs.RunLaws.{AreFor-snoc, sent_on-append, are_on_time-snoc}
 use Rattle.run_model.proofs.Growth.{ActsLead-entries}
@@ -49,7 +49,7 @@ use Rattle.dash_stage.specs.Playing.{befores_called, AreCallsOnTime}
 use Rattle.dash_stage.specs.Records.{AreQueueRecords, AreFrameRecords, AreJournals, AreAllTheirs, HaveAll, HaveSeenOwn}
 use Rattle.dash_stage.specs.Sharing.{OfKits}
 use Rattle.dash_stage.specs.Stages.{LoopersGoOn}
-use Rattle.dash_loopers.proofs.LooperKits.{kit_two}
+use Rattle.dash_loopers.proofs.LooperKits.{kit_one}
 use Rattle.dash_hall.proofs.Badges.{alike_length, poster_at, queue_count}
 use Rattle.dash_stage.specs.Controllers.{IsControllerIn}
 use Rattle.dash_stage.specs.Runs.{HaveRunAll}
@@ -62,7 +62,8 @@ use Rattle.dash_loopers.proofs.Disposing.{thread_disposes_nothing, controls_disp
 use Rattle.dash_stage.proofs.Played.Disposing.{befores_are, befores_end}
 use Rattle.dash_stage.proofs.Ends.HallEnds.{some_of}
 use Rattle.dash_loopers.proofs.OwnLooks.{NoneDisposes, LooksAtOwn, looks_at_own, none_elsewhere}
-use Rattle.dash_stage.proofs.Played.Standing.{HasLeftIn, HasStarted, HasFramed, StandsAt}
+use Rattle.dash_loopers.specs.Played.{HasLeft}
+use Rattle.dash_stage.proofs.Played.Standing.{StandsAt}
 use Rattle.dash_stage.proofs.Stages.Timely.{few, in_posters, within, history, number, is_seen, setting_is}
 
 -- the timings of calls
@@ -106,10 +107,10 @@ pub in_step : (b : Bool) (P Q : Type 0) → (P → Q) → MatchBool b P (Unit {0
 in_step true P Q f p = f p
 in_step false P Q f p = tt
 
--- and what follows there by its being lockstep
-in_step_by : (b : Bool) (P Q : Type 0) → (b ≡ true → P → Q) → MatchBool b P (Unit {0}) → MatchBool b Q (Unit {0})
-in_step_by true P Q f p = f refl p
-in_step_by false P Q f p = tt
+-- and what holds by its being lockstep
+in_step_by : (b : Bool) (P : Type 0) → (b ≡ true → P) → MatchBool b P (Unit {0})
+in_step_by true P f = f refl
+in_step_by false P f = tt
 
 -- its calls came at their times: on its own queue all but the looks that disposed of it, and on each other queue all
 record AreTimely (s : Script) (queues : List QueueRecord) (k : ℕ) (a : LooperState) : Type 0 where
@@ -118,7 +119,7 @@ record AreTimely (s : Script) (queues : List QueueRecord) (k : ℕ) (a : LooperS
 
 -- what is known of one looper, by its place: where it left, what its poster of each queue made, and what stands in the records
 record Known (m : Mode) (s : Script) (queues : List QueueRecord) (k : ℕ) (j : Journal) (f : FrameRecord) (kit : Kit) (a : LooperState) : Type 0 where
-  left : HasLeftIn m.lockstep s k j kit a
+  left : HasLeft m.lockstep s k j kit a
   one : k < length queues
   number : (r : ℕ) (x : QueueRecord) → r < length queues → (slice_index_or queues r x).looper ≡ r
   made : (r : ℕ) (x : QueueRecord) (p : Sender) → r < length queues → entries_by (looper_sender s k) (history_of (slice_index_or queues r x)) ≡ own (slice_index_or kit.posters.items r p)
@@ -126,7 +127,7 @@ record Known (m : Mode) (s : Script) (queues : List QueueRecord) (k : ℕ) (j : 
   poster : Sender
   seen : (x : QueueRecord) → IsPrefix (slice_index_or kit.posters.items k poster).view.seen (history_of (slice_index_or queues k x))
   pass : Pass
-  frames : (i : ℕ) → i < 2 → IsPrefix (slice_index_or kit.frames.items i pass).view.seen f.entries
+  frames : IsPrefix (slice_index_or kit.frames.items 0 pass).view.seen f.entries
   lawful_ : IsFrameRun s f
   told : (x : QueueRecord) → filter_map act_dispatch j.acts ≡ filter_map (λ e. call_dispatch e.call e.reply) (entries_by (looper_sender s k) (history_of (slice_index_or queues k x)))
   asked : AreAskedInTurn m.lockstep (asks_in f.entries) (asked_then s k a)
@@ -142,7 +143,7 @@ module _ (mode : Mode) (s : Script) (queues : List QueueRecord) (k : ℕ) (j : J
   led x =
       let begins = h.seen x in
       subst (λ (es : List Entry). ActsLead s k es f.entries (first_looper s) j.acts a) begins.1
-      (ActsLead-entries s k (slice_index_or kit.posters.items k h.poster).view.seen f.entries begins.0 (first_looper s) j.acts a (h.left.led h.poster h.pass f.entries (h.frames 0 (omega arith)) is_lawful))
+      (ActsLead-entries s k (slice_index_or kit.posters.items k h.poster).view.seen f.entries begins.0 (first_looper s) j.acts a (h.left.led h.poster h.pass f.entries h.frames is_lawful))
 
   -- it looks at its own queue alone
   looks_own : (x : QueueRecord) → LooksAtOwn s k a
@@ -187,12 +188,10 @@ module _ (mode : Mode) (s : Script) (queues : List QueueRecord) (k : ℕ) (j : J
         disposed_at = at;
         calls = subst (λ (m : ℕ). AllByRecursion (λ (r : QueueRecord). AreFor IsSent [] (caused_on r.looper a m at) (entries_by (looper_sender s m) (history_of r))) queues) (sym is) each_calls;
         asked = subst (λ (m : ℕ). AreAskedInTurn mode.lockstep (asks_in f.entries) (asked_then s m a)) (sym is) h.asked;
-        whole = subst (λ (n : ℕ). are_whole n f.entries a.frames ≡ true) (sym h.lawful_.phases) (h.left.whole h.pass f.entries (h.frames 0 (omega arith)) is_lawful);
         on_time = in_step mode.lockstep (AreTimely s queues k a) (AllByRecursion (λ (r : QueueRecord). are_on_time (timings (caused_on r.looper a q.looper at)) (befores (looper_sender s q.looper) (history_of r)) ≡ true) queues)
             (λ t. subst (λ (m : ℕ). AllByRecursion (λ (r : QueueRecord). are_on_time (timings (caused_on r.looper a m at)) (befores (looper_sender s m) (history_of r)) ≡ true) queues) (sym is) (each_time t)) h.timely;
-        moments = in_step mode.lockstep (HasStarted s kit a) (are_run_then f.entries a.frames ≡ true) (λ t. t h.pass f.entries (h.frames 0 (omega arith)) is_lawful) h.left.moments;
         pulses = h.framed;
-        pulses_first = h.left.pulses_first;
+        pulses_first = in_step_by mode.lockstep (pulses_come_first j.acts ≡ true) h.left.pulses_first;
       }
     where
       same : (r : ℕ) (y : QueueRecord) → r ≡ k → r < length queues → (history_of (slice_index_or queues k x)) ≡ (history_of (slice_index_or queues r y))
@@ -292,7 +291,7 @@ module _ (mode : Mode) (s : Script) (hall : Hall) (kits : List Kit) (queues : Li
       let left = (stood k lt).left j c.kit in
       let passes = pass_count (turns_on h is_controller one) in
       asked_by_all mode.lockstep s k kits c.kit p (stood k lt).state (slice_index_or fs k f).entries (theirs k c.kit p f (in_frames k lt))
-      (λ thread below. threads_asked s hall h kits are mode run k thread c.kit p one below) (left.ran p) (left.asked p)
+      (λ thread below. threads_asked s hall h kits are mode run k thread c.kit p one below) (left.asked p)
       (ap (λ (z : Kit). (slice_index_or z.frames.items k p).view.own) (held c.kit) ∙ is_controller.idle k p (omega (arith, one, passes)))
       (in_step mode.lockstep ((x : Pass) → HasAskedInTurn s k (slice_index_or c.kit.frames.items k x) (stood k lt).state) (HasAskedInTurn s k (slice_index_or (slice_index_or kits (controller s) c.kit).frames.items k p) (stood k lt).state)
       (λ t. subst (λ (z : Kit). HasAskedInTurn s k (slice_index_or z.frames.items k p) (stood k lt).state) (sym (held c.kit)) (t p)) (stood k lt).in_turn)
@@ -322,7 +321,7 @@ module _ (mode : Mode) (s : Script) (hall : Hall) (kits : List Kit) (queues : Li
       let long = alike_length badge_of (badge_for (s.threads + k)) kit.posters.items hall.queues.items is.posters ∙ queue_count hall.lockstep s hall.pool hall.queues.items h.queues in
       let short = count in
       let of : IsLooperOf s hall k = record { few = small; one = omega (arith, lt, short); is_hall = h } in
-      let two = kit_two s hall k of kit is in
+      let single = kit_one s hall k of kit is in
       record {
         left = (stood k lt).left j c.kit;
         one = lt;
@@ -331,11 +330,11 @@ module _ (mode : Mode) (s : Script) (hall : Hall) (kits : List Kit) (queues : Li
         posters = omega (arith, short, long);
         poster = some_of kit.posters.items k (poster_in k lt);
         seen = λ x. (all (s.threads + k) k c.kit (some_of kit.posters.items k (poster_in k lt)) x (in_kits k lt) lt).1;
-        pass = some_of kit.frames.items 0 (omega (arith, two));
-        frames = λ i below. own_seen k i c.kit (some_of kit.frames.items 0 (omega (arith, two))) f below (in_frames k lt);
+        pass = some_of kit.frames.items 0 (omega (arith, single));
+        frames = own_seen k c.kit (some_of kit.frames.items 0 (omega (arith, single))) f (in_frames k lt);
         lawful_ = All_indexed (IsFrameRun s) fs are_fs.lawful k f (in_frames k lt);
         told = λ x. dispatches_of_records s hall h kits are queues js recs.loopers all are_js told k x j lt;
-        asked = asked k j f (some_of kit.frames.items 0 (omega (arith, two))) lt;
+        asked = asked k j f (some_of kit.frames.items 0 (omega (arith, single))) lt;
         timely = in_step mode.lockstep (AreCallsOnTime s c k (stood k lt).state) (AreTimely s queues k (stood k lt).state) (λ on_time. record {
           here = λ x.
               let there = within mode s hall kits queues h are c held recs all seen k lt in
@@ -348,8 +347,8 @@ module _ (mode : Mode) (s : Script) (hall : Hall) (kits : List Kit) (queues : Li
               subst (λ (es : List Entry). are_on_time (timings (sent_on r (stood k lt).state.sent)) (befores (looper_sender s k) es) ≡ true) (sym (is_seen mode s hall kits queues h are c held recs all seen r d x below))
               (on_time.elsewhere r d apart there);
         }) (stood k lt).on_time;
-        framed = in_step_by mode.lockstep (HasFramed s k (slice_index_or js k j) kit (stood k lt).state) (has_frames (slice_index_or js k j).acts (stood k lt).state ≡ true)
-            (λ step ran. (let p = some_of kit.posters.items k (poster_in k lt) in ran p (own_sound step k p lt))) ((stood k lt).left j c.kit).pulses;
+        framed = in_step_by mode.lockstep (has_frames (slice_index_or js k j).acts (stood k lt).state ≡ true)
+            (λ step. (let p = some_of kit.posters.items k (poster_in k lt) in ((stood k lt).left j c.kit).pulses p step (own_sound step k p lt)));
       }
 
   -- no other sender than its looper disposes of a queue

@@ -30,8 +30,8 @@ use Rattle.dash_threads.specs.Threads.{ThreadKeeps}
 use Rattle.dash_loopers.specs.declared.player.Parts.{Parts}
 use Rattle.dash_loopers.specs.declared.looper.StageLooper.{StageLooper}
 use Rattle.dash_loopers.specs.Loopers.{IsSoundOn, setting_for, is_given_up, posters_of, LooperRest, rest_in, LooperKeeps}
-use Rattle.dash_loopers.specs.Played.{calls_in, Stands, IsTimedBy, GoesOnTo, StandsBetweenRounds, ComesTo, HasPlayed}
-use Rattle.dash_loopers.proofs.LooperAsks.{AskAt, ask_nothing, ask_then, asks_in_round}
+use Rattle.dash_loopers.specs.Played.{calls_in, StandsBy, IsTimedBy, GoesOnTo, StandsBetweenRounds, ComesTo, HasPlayed}
+use Rattle.dash_loopers.proofs.LooperAsks.{AskAt, asked_nothing, asked_behind, asks_in_round}
 use Rattle.dash_stage.specs.declared.stage.Stage.{Stage}
 use Rattle.dash_stage.specs.Stages.{IsStage, AreLoopers, LoopersGoOn}
 use Rattle.dash_stage.specs.Sharing.{HaveSeenTheSame}
@@ -305,9 +305,9 @@ module _ (s : Script) (text : HasText s) (st : Stage) (ls : List StageLooper) (s
       comes_on =
           let one = loopers.1 k l in_ran in
           let mine : sender ≡ ran.sender = ap (λ (n : ℕ). s.threads + n) (sym one.1) ∙ sym one.0.sender in (
-            subst (λ (o : Option Parts). IsSomeAnd o (λ parts. Stands s ran.number ran.sender ran.looper.held.poster.view.seen ran.looper.held.journal.acts parts came.state)) (sym (went played).1)
-                (subst (λ (n : ℕ). Stands s n ran.sender ran.looper.held.poster.view.seen ran.looper.held.journal.acts (went played).0 came.state) (sym one.1)
-                (subst (λ (n : ℕ). Stands s k n ran.looper.held.poster.view.seen ran.looper.held.journal.acts (went played).0 came.state) mine came.stands)),
+            subst (λ (o : Option Parts). IsSomeAnd o (λ parts. StandsBy true s ran.number ran.sender ran.looper.held.poster.view.seen ran.looper.held.journal.acts parts came.state)) (sym (went played).1)
+                (subst (λ (n : ℕ). StandsBy true s n ran.sender ran.looper.held.poster.view.seen ran.looper.held.journal.acts (went played).0 came.state) (sym one.1)
+                (subst (λ (n : ℕ). StandsBy true s k n ran.looper.held.poster.view.seen ran.looper.held.journal.acts (went played).0 came.state) mine came.stands)),
             came.first,
           )
 
@@ -353,11 +353,11 @@ module _ (s : Script) (text : HasText s) (st : Stage) (ls : List StageLooper) (s
       asked_now p has =
           let here = is.loopers.1 k l was_looper in
           let mine : began.sender ≡ sender = here.0.sender ∙ ap (λ (n : ℕ). s.threads + n) here.1 in
-          let first : Stands s began.number began.sender began.looper.held.poster.view.seen began.looper.held.journal.acts p timely_before.state =
-          subst (λ (o : Option Parts). IsSomeAnd o (λ parts. Stands s began.number began.sender began.looper.held.poster.view.seen began.looper.held.journal.acts parts timely_before.state)) has timely_before.come.0 in
+          let first : StandsBy true s began.number began.sender began.looper.held.poster.view.seen began.looper.held.journal.acts p timely_before.state =
+          subst (λ (o : Option Parts). IsSomeAnd o (λ parts. StandsBy true s began.number began.sender began.looper.held.poster.view.seen began.looper.held.journal.acts parts timely_before.state)) has timely_before.come.0 in
           asks_in_round s k sender st.time st.time began.looper.held.poster.view.seen ran.looper.held.poster.view.seen came.looks began.looper.held.journal.acts ran.looper.held.journal.acts p (went played).0 timely_before.state came.state
-          (subst (λ (n : ℕ). Stands s n sender began.looper.held.poster.view.seen began.looper.held.journal.acts p timely_before.state) here.1
-          (subst (λ (n : ℕ). Stands s began.number n began.looper.held.poster.view.seen began.looper.held.journal.acts p timely_before.state) mine first)) came.stands came.on
+          (subst (λ (n : ℕ). StandsBy true s n sender began.looper.held.poster.view.seen began.looper.held.journal.acts p timely_before.state) here.1
+          (subst (λ (n : ℕ). StandsBy true s began.number n began.looper.held.poster.view.seen began.looper.held.journal.acts p timely_before.state) mine first)) came.stands came.on
           (λ t h. met_one s k st.time sender (whole_on st.controller k l.looper.held.poster) came.looks its_looks 0 (At t) h)
 
     -- a looper that only heard others has asked for nothing
@@ -365,7 +365,7 @@ module _ (s : Script) (text : HasText s) (st : Stage) (ls : List StageLooper) (s
     asks_kept p p' had has =
         let heard = (kept.each k l in_ran).rest (record { frames = p.frames; root = p.root; fired = p.fired.items; passed = p.passed; awaits = p.awaits }) (ap rest_in had) in
         let is_rest : heard.0 ≡ record { frames = p'.frames; root = p'.root; fired = p'.fired.items; passed = p'.passed; awaits = p'.awaits } = same_Some _ _ (sym heard.1 ∙ ap rest_in has) in
-        ask_nothing st.time p p' (ap (λ (r : LooperRest). pass_asks r.root.pass) (sym is_rest) ∙ ap asks_in heard.2.client.same.own) (ap (λ (r : LooperRest). pass_asks r.frames) (sym is_rest) ∙ ap asks_in heard.2.frames.same.own)
+        asked_nothing st.time p p' (ap (λ (r : LooperRest). pass_asks r.frames) (sym is_rest) ∙ ap asks_in heard.2.frames.same.own)
 
     asked_one : PlaysOn s st.time began ran → (p p' : Parts) → began.parts ≡ Some p → left.parts ≡ Some p' → AskAt st.time p p'
     asked_one (inl stays) p p' had has = asks_kept p p' (ap (λ (z : StageLooper). z.parts) stays ∙ had) has
@@ -373,7 +373,7 @@ module _ (s : Script) (text : HasText s) (st : Stage) (ls : List StageLooper) (s
       | inl stopped ↦ asks_kept p p' (ap (λ (z : StageLooper). z.parts) (run.stopped stopped) ∙ had) has
       | inr going ↦
           let gone = went played in
-          ask_then st.time p gone.0 p' (asked_now played (not_first (is_ended began.last) (is_given_up began.last) going) p had) (asks_kept gone.0 p' gone.1 has)
+          asked_behind st.time p gone.0 p' (asked_now played (not_first (is_ended began.last) (is_given_up began.last) going) p had) (asks_kept gone.0 p' gone.1 has)
     ]
 
     round_one : PlaysOn s st.time began ran → IsTimelyLooper s st'.controller left

@@ -16,11 +16,11 @@ use Rattle.frame_phases.specs.declared.entry.FrameEntry.{FrameEntry}
 use Rattle.loop_model.proofs.Prefixes.{prefix_trans, prefix_length}
 use Rattle.looper_run.specs.Holding.{Sender}
 use Rattle.run_model.specs.Planned.{AreFor, entries_by, looper_sender, sender_count}
-use Rattle.run_model.specs.AskedSoFar.{tokens_in}
 use Rattle.run_model.specs.Loopers.{LooperState, first_looper, ActsLead, IsSent}
 use Rattle.run_model.specs.Parts.{sent_on}
 use Rattle.loop_model.specs.Base.{empty_base}
 use Rattle.loop_model.specs.Answers.{clock}
+use Rattle.choreographer.specs.Known.{Pass}
 use Rattle.choreographer.proofs.InTime.{later_quietly}
 use Rattle.dash_loopers.proofs.WantedPulses.{last_quietly}
 use Rattle.dash_loopers.specs.PlayingLaws.{runs_later}
@@ -36,7 +36,7 @@ use Rattle.dash_loopers.specs.declared.looper.StageLooper.{StageLooper}
 use Rattle.dash_loopers.specs.Players.{PlaceWithout}
 use Rattle.dash_loopers.specs.Loopers.{IsLooper, IsSoundOn, LooperRest, LooperKeeps, posters_of, others_in, rest_in, is_disposal}
 use Rattle.dash_loopers.specs.PulsesFirst.{TellsPulsesFirst}
-use Rattle.dash_loopers.specs.Played.{calls_in, IsRootOf, IsShown, IsPlayed, HasSeenUpTo, StandsBy, StandsBetweenRounds, StandsBetweenLoops}
+use Rattle.dash_loopers.specs.Played.{calls_in, IsShown, IsPlayed, HasSeenUpTo, StandsBy, StandsBetweenRounds, StandsBetweenLoops}
 use Rattle.dash_stage.specs.declared.stage.Stage.{Stage}
 use Rattle.dash_stage.specs.Stages.{IsStage}
 use Rattle.dash_stage.specs.Sharing.{HaveSeenTheSame}
@@ -70,36 +70,21 @@ others_called n xs ys p p' le le' heard =
           ap own (sym (get_or-insert_above ys n p' d j at le')) ∙ h ∙ ap own (get_or-insert_above xs n p d j at le)),
     )
 
--- a view root whose pass heard others stands as it stood
-shown_heard : (s : Script) (q : ℕ) (made : List Entry) (root root' : ViewRoot) (a : LooperState) → PassHasHeard root.pass root'.pass → root' ≡ record root { pass = root'.pass } → IsShown s q made root a → IsShown s q made root' a
-shown_heard s q made root root' a heard same st = record {
-  calls = st.calls;
-  asked = ap (λ (es : List FrameEntry). asks_in es) heard.same.own ∙ st.asked;
-  turns = heard.same.turns ∙ st.turns;
-  stands = subst (IsRootOf s q (tokens_in made) a) (sym same) record {
-    edition = st.stands.edition;
-    gauges = st.stands.gauges;
-    lines = st.stands.lines;
-    barrier = st.stands.barrier;
-    barriers = st.stands.barriers;
-    painted = st.stands.painted;
-  };
-}
+-- a pass that heard others asked for what it had asked for
+shown_heard : (lockstep : Bool) (s : Script) (q : ℕ) (made : List Entry) (pass pass' : Pass) (root : ViewRoot) (a : LooperState) → PassHasHeard pass pass' → IsShown lockstep s q made pass root a → IsShown lockstep s q made pass' root a
+shown_heard lockstep s q made pass pass' root a heard st = record { calls = st.calls; asked = ap (λ (es : List FrameEntry). map (as_told lockstep) (asks_in es)) heard.same.own ∙ st.asked; stands = st.stands }
 
 -- a looper stands where it stood, whatever more it has seen of others
-stands_heard : {lockstep : Bool} (s : Script) (q k : ℕ) (es es' : List Entry) (acts : List Act) (parts parts' : Parts) (did a : LooperState) → IsPrefix es es' → calls_in k es' ≡ calls_in k es
-    → PassHasHeard parts.frames parts'.frames → PassHasHeard parts.root.pass parts'.root.pass → parts'.root ≡ record parts.root { pass = parts'.root.pass } → parts'.fired.items ≡ parts.fired.items → parts'.awaits ≡ parts.awaits → length parts'.others.items ≡ length parts.others.items
+stands_heard : {lockstep : Bool} (s : Script) (q k : ℕ) (es es' : List Entry) (acts : List Act) (parts parts' : Parts) (a : LooperState) → IsPrefix es es' → calls_in k es' ≡ calls_in k es
+    → PassHasHeard parts.frames parts'.frames → parts'.root ≡ parts.root → parts'.fired.items ≡ parts.fired.items → parts'.awaits ≡ parts.awaits → length parts'.others.items ≡ length parts.others.items
     → ((j : ℕ) (d : Sender) → j < length parts.others.items → own (slice_index_or parts'.others.items j d) ≡ own (slice_index_or parts.others.items j d))
-    → StandsBy lockstep s q k es acts parts did a → StandsBy lockstep s q k es' acts parts' did a
-stands_heard {lockstep} s q k es es' acts parts parts' did a more calls frames client root fired awaits long called st = record {
+    → StandsBy lockstep s q k es acts parts a → StandsBy lockstep s q k es' acts parts' a
+stands_heard {lockstep} s q k es es' acts parts parts' a more calls frames root fired awaits long called st = record {
   led = λ fs begins law.
       subst (λ l. ActsLead s q l fs (first_looper s) acts a) more.1
       (ActsLead-entries s q es fs more.0 (first_looper s) acts a (st.led fs (prefix_trans parts.frames.view.seen parts'.frames.view.seen fs frames.seen begins) law));
   place = let le = prefix_length parts.frames.view.seen parts'.frames.view.seen frames.seen in let was = st.place in omega (arith, le, was);
   last = let has = st.latest_is in last_quietly a.place parts.frames.view.seen parts'.frames.view.seen (frames.same.quiet has.key has.constants has.alone) st.place st.last;
-  moments = λ is fs begins law. st.moments is fs (prefix_trans parts.frames.view.seen parts'.frames.view.seen fs frames.seen begins) law;
-  whole = λ fs begins law. st.whole fs (prefix_trans parts.frames.view.seen parts'.frames.view.seen fs frames.seen begins) law;
-  ran = ap (λ (es : List FrameEntry). map (as_told lockstep) (asks_in es)) frames.same.own ∙ st.ran;
   settled = st.settled;
   latest_is = let was = st.latest_is in record {
     key = was.key;
@@ -110,7 +95,7 @@ stands_heard {lockstep} s q k es es' acts parts parts' did a more calls frames c
   };
   awaits_is = awaits ∙ st.awaits_is;
   in_time = λ is sound.
-      let was = runs_later s q es more.0 acts parts.frames a.awaits did.frames (st.in_time is) (subst (IsSoundOn s q) (sym more.1) sound) in
+      let was = runs_later s q es more.0 acts parts.frames a (st.in_time is) (subst (IsSoundOn s q) (sym more.1) sound) in
       let has = st.latest_is in
       record {
         up_to = later_quietly (nanos_of (clock (empty_base (sender_count s)) es')) parts.frames.view.seen parts'.frames.view.seen (frames.same.quiet has.key has.constants has.alone)
@@ -118,10 +103,11 @@ stands_heard {lockstep} s q k es es' acts parts parts' did a more calls frames c
         pulses = was.pulses;
       };
   played = record {
-    shown = shown_heard s q (calls_in k es') parts.root parts'.root did client root (subst (λ l. IsShown s q l parts.root did) (sym calls) st.played.shown);
+    shown = subst (λ (v : ViewRoot). IsShown lockstep s q (calls_in k es') parts'.frames v a) (sym root)
+        (shown_heard lockstep s q (calls_in k es') parts.frames parts'.frames parts.root a frames (subst (λ l. IsShown lockstep s q l parts.frames parts.root a) (sym calls) st.played.shown));
     elsewhere = λ r j d at lt.
         let was : j < length parts.others.items = subst (λ (n : ℕ). j < n) long lt in
-        subst (λ l. AreFor IsSent [] (sent_on r did.sent) l) (sym (called j d was)) (st.played.elsewhere r j d at was);
+        subst (λ l. AreFor IsSent [] (sent_on r a.sent) l) (sym (called j d was)) (st.played.elsewhere r j d at was);
     fired = fired ∙ st.played.fired;
     counts = ap length fired ∙ st.played.counts;
   };
@@ -129,9 +115,9 @@ stands_heard {lockstep} s q k es es' acts parts parts' did a more calls frames c
 
 module _ (s : Script) (hall : Hall) (is_hall : IsHall s hall) (l : StageLooper) (is : IsLooper s hall l) (b : StageLooper) (k : LooperKeeps HaveHeard l b) where
   -- a looper that only heard others stands where it stood
-  heard_stands : (lockstep : Bool) (did a : LooperState) → IsSomeAnd l.parts (λ parts. StandsBy lockstep s l.number l.sender l.looper.held.poster.view.seen l.looper.held.journal.acts parts did a)
-      → IsSomeAnd b.parts (λ parts. StandsBy lockstep s b.number b.sender b.looper.held.poster.view.seen b.looper.held.journal.acts parts did a)
-  heard_stands lockstep did a come =
+  heard_stands : (lockstep : Bool) (a : LooperState) → IsSomeAnd l.parts (λ parts. StandsBy lockstep s l.number l.sender l.looper.held.poster.view.seen l.looper.held.journal.acts parts a)
+      → IsSomeAnd b.parts (λ parts. StandsBy lockstep s b.number b.sender b.looper.held.poster.view.seen b.looper.held.journal.acts parts a)
+  heard_stands lockstep a come =
       let p = looper_parts s hall is_hall l is in
       let r : LooperRest = record { frames = p.0.frames; root = p.0.root; fired = p.0.fired.items; passed = p.0.passed; awaits = p.0.awaits } in
       let told = k.rest r (ap rest_in p.1) in
@@ -148,25 +134,25 @@ module _ (s : Script) (hall : Hall) (is_hall : IsHall s hall) (l : StageLooper) 
       let mine : b.looper.held.poster.sender ≡ l.sender = heard.same.sender ∙ is.own in
       let calls : calls_in l.sender b.looper.held.poster.view.seen ≡ calls_in l.sender l.looper.held.poster.view.seen =
       ap (filter (λ e. not (is_disposal e))) (ap (λ (m : ℕ). entries_by m b.looper.held.poster.view.seen) (sym mine) ∙ heard.called ∙ ap (λ (m : ℕ). entries_by m l.looper.held.poster.view.seen) is.own) in
-      let before : StandsBy lockstep s n l.sender l.looper.held.poster.view.seen l.looper.held.journal.acts p.0 did a = subst (λ (o : Option Parts). IsSomeAnd o (λ parts. StandsBy lockstep s n l.sender l.looper.held.poster.view.seen l.looper.held.journal.acts parts did a)) p.1 come in
-      let after : StandsBy lockstep s n l.sender b.looper.held.poster.view.seen l.looper.held.journal.acts q.0 did a =
-      stands_heard s n l.sender l.looper.held.poster.view.seen b.looper.held.poster.view.seen l.looper.held.journal.acts p.0 q.0 did a heard.more calls
-      (subst (λ (z : LooperRest). PassHasHeard p.0.frames z.frames) rest told.2.frames) (subst (λ (z : LooperRest). PassHasHeard p.0.root.pass z.root.pass) rest told.2.client)
-      (subst (λ (z : LooperRest). z.root ≡ record p.0.root { pass = z.root.pass }) rest told.2.root) (subst (λ (z : LooperRest). z.fired ≡ p.0.fired.items) rest told.2.fired) (subst (λ (z : LooperRest). z.awaits ≡ p.0.awaits) rest told.2.awaits) others.0 others.1 before in
-      subst (λ (o : Option Parts). IsSomeAnd o (λ parts. StandsBy lockstep s b.number b.sender b.looper.held.poster.view.seen b.looper.held.journal.acts parts did a)) (sym q.1)
-      (subst (λ (m : ℕ). StandsBy lockstep s m b.sender b.looper.held.poster.view.seen b.looper.held.journal.acts q.0 did a) (sym k.number)
-      (subst (λ (m : ℕ). StandsBy lockstep s n m b.looper.held.poster.view.seen b.looper.held.journal.acts q.0 did a) (sym k.sender)
-      (subst (λ (j : Journal). StandsBy lockstep s n l.sender b.looper.held.poster.view.seen j.acts q.0 did a) (sym k.beside.journal) after)))
+      let before : StandsBy lockstep s n l.sender l.looper.held.poster.view.seen l.looper.held.journal.acts p.0 a = subst (λ (o : Option Parts). IsSomeAnd o (λ parts. StandsBy lockstep s n l.sender l.looper.held.poster.view.seen l.looper.held.journal.acts parts a)) p.1 come in
+      let after : StandsBy lockstep s n l.sender b.looper.held.poster.view.seen l.looper.held.journal.acts q.0 a =
+      stands_heard s n l.sender l.looper.held.poster.view.seen b.looper.held.poster.view.seen l.looper.held.journal.acts p.0 q.0 a heard.more calls
+      (subst (λ (z : LooperRest). PassHasHeard p.0.frames z.frames) rest told.2.frames)
+      (subst (λ (z : LooperRest). z.root ≡ p.0.root) rest told.2.root) (subst (λ (z : LooperRest). z.fired ≡ p.0.fired.items) rest told.2.fired) (subst (λ (z : LooperRest). z.awaits ≡ p.0.awaits) rest told.2.awaits) others.0 others.1 before in
+      subst (λ (o : Option Parts). IsSomeAnd o (λ parts. StandsBy lockstep s b.number b.sender b.looper.held.poster.view.seen b.looper.held.journal.acts parts a)) (sym q.1)
+      (subst (λ (m : ℕ). StandsBy lockstep s m b.sender b.looper.held.poster.view.seen b.looper.held.journal.acts q.0 a) (sym k.number)
+      (subst (λ (m : ℕ). StandsBy lockstep s n m b.looper.held.poster.view.seen b.looper.held.journal.acts q.0 a) (sym k.sender)
+      (subst (λ (j : Journal). StandsBy lockstep s n l.sender b.looper.held.poster.view.seen j.acts q.0 a) (sym k.beside.journal) after)))
 
   -- it has come as far, in lockstep and by a clock
   pub heard_come : (a : LooperState) → StandsBetweenRounds s l a → StandsBetweenRounds s b a
-  heard_come a come = (heard_stands true a a come.0, heard_first come.1)
+  heard_come a come = (heard_stands true a come.0, heard_first come.1)
     where
       heard_first : TellsPulsesFirst l.dispatched l.looper.held.journal.acts → TellsPulsesFirst b.dispatched b.looper.held.journal.acts
       heard_first first = subst (λ (n : ℕ). TellsPulsesFirst n b.looper.held.journal.acts) (sym k.dispatched) (subst (λ (j : Journal). TellsPulsesFirst l.dispatched j.acts) (sym k.beside.journal) first)
 
-  pub heard_come_by : (did a : LooperState) → StandsBetweenLoops s l did a → StandsBetweenLoops s b did a
-  heard_come_by did a come = (come.0, heard_stands false did a come.1)
+  pub heard_come_by : (a : LooperState) → StandsBetweenLoops s l a → StandsBetweenLoops s b a
+  heard_come_by a come = heard_stands false a come
 
 -- the entries that were seen of the looper's calls are as many as the state tells
 module _ (s : Script) (st : Stage) (is : IsStage s st) (same : HaveSeenTheSame st) (k : ℕ) (l : StageLooper) (lt : k < length st.loopers.items) (a : LooperState) (come : StandsBetweenRounds s (slice_index_or st.loopers.items k l) a) where
@@ -174,15 +160,15 @@ module _ (s : Script) (st : Stage) (is : IsStage s st) (same : HaveSeenTheSame s
   looper = slice_index_or st.loopers.items k l
 
   -- with the looper's parts, told by its number
-  come_parts : (parts : Parts) × (looper.parts ≡ Some parts) × IsPlayed s k (calls_in (looper_sender s k) looper.looper.held.poster.view.seen) parts a
+  come_parts : (parts : Parts) × (looper.parts ≡ Some parts) × IsPlayed true s k (calls_in (looper_sender s k) looper.looper.held.poster.view.seen) parts a
   come_parts =
       let one = is.loopers.1 k l lt in
       let p = looper_parts s st.hall is.hall looper one.0 in
-      let stands = subst (λ (o : Option Parts). IsSomeAnd o (λ parts. StandsBy true s looper.number looper.sender looper.looper.held.poster.view.seen looper.looper.held.journal.acts parts a a)) p.1 come.0 in (
+      let stands = subst (λ (o : Option Parts). IsSomeAnd o (λ parts. StandsBy true s looper.number looper.sender looper.looper.held.poster.view.seen looper.looper.held.journal.acts parts a)) p.1 come.0 in (
         p.0,
         p.1,
-        subst (λ (m : ℕ). IsPlayed s m (calls_in (looper_sender s m) looper.looper.held.poster.view.seen) p.0 a) one.1
-            (subst (λ (m : ℕ). IsPlayed s looper.number (calls_in m looper.looper.held.poster.view.seen) p.0 a) one.0.sender stands.played),
+        subst (λ (m : ℕ). IsPlayed true s m (calls_in (looper_sender s m) looper.looper.held.poster.view.seen) p.0 a) one.1
+            (subst (λ (m : ℕ). IsPlayed true s looper.number (calls_in m looper.looper.held.poster.view.seen) p.0 a) one.0.sender stands.played),
       )
 
   pub own_count : (d : Sender) → length (sent_on k a.sent) ≡ length (calls_in (looper_sender s k) (whole_on st.controller k d))

@@ -43,7 +43,7 @@ returns-clause-parts g c =
     let same = c.nudge.ensures.same.0 in
     parts_with parts 0 c.index_mut.result.now c.nudge.new.self _
     (other_read c.args.script.now c.args.hall.now c.args.number 0 0 parts c.requires.looper c.requires.parts near (inl (some, refl)) parts.others.len c.index_mut.result.now (omega (arith, parts.others.ok.0)) c.index_mut.ensures.value)
-    (λ i. record { table = same.table i; constants = same.constants i; sender = same.sender i }) refl refl refl refl
+    (λ i. record { table = same.table i; constants = same.constants i; sender = same.sender i }) refl refl refl
 
 pub returns-then-not-gave_up-clause-nudged : goal.returns-then-not-gave_up-clause-nudged
 returns-then-not-gave_up-clause-nudged g c = λ up apart. (let on : c.args.gave_up ≡ false = c.if-not-gave_up.true in absurd (true≢false (sym up ∙ on)))

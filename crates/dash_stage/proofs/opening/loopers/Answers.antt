@@ -5,7 +5,7 @@ use Rattle.dash_loopers.specs.declared.looper.StageLooper.{StageLooper}
 use Rattle.dash_hall.specs.Kits.{AreUnseen, IsUnusedKit, AreUnusedKits}
 use Rattle.dash_hall.specs.Hearing.{HasHeardAll}
 use Rattle.dash_stage.specs.Sharing.{OfLoopers, HaveHeardNothing}
-use Rattle.dash_loopers.specs.Loopers.{posters_of, WaitsForNothing, OfItsPasses}
+use Rattle.dash_loopers.specs.Loopers.{posters_of, WaitsForNothing, OfItsPass}
 use Rattle.run_model.specs.Loopers.{first_looper}
 use Rattle.dash_loopers.specs.Played.{StandsBetweenRounds}
 use Rattle.dash_stage.specs.Timeliness.{WaitForNothing}
@@ -62,5 +62,5 @@ loop-number-preserved c =
       unseen = subst (OfLoopers AreUnseen) (sym grown) (each_more (λ k (z : StageLooper). AreUnseen (posters_of z)) at.loopers.items one was.unseen unseen);
       waits = subst WaitForNothing (sym grown) (each_more (λ k (z : StageLooper). WaitsForNothing z.last) at.loopers.items one was.waits new.waits);
       begun = subst (HaveBegun s) (sym grown) (each_more (λ k (z : StageLooper). StandsBetweenRounds s z (first_looper s)) at.loopers.items one was.begun new.begun);
-      unheard = subst HaveHeardNothing (sym grown) (each_more (λ k (z : StageLooper). OfItsPasses (HasHeardAll []) z) at.loopers.items one was.unheard new.unheard);
+      unheard = subst HaveHeardNothing (sym grown) (each_more (λ k (z : StageLooper). OfItsPass (HasHeardAll []) z) at.loopers.items one was.unheard new.unheard);
     }

@@ -40,7 +40,7 @@ into_whole-requires-clause-parts c =
     let s = c.args.script.now in
     let over = c.loop-number-test.false in
     let most = at.auto.number-end in
-    let all : at.number ≡ s.threads + 3 = omega (arith, over, most) in
+    let all : at.number ≡ s.threads + 2 = omega (arith, over, most) in
     taken_sealed s c.args.looper c.args.choreographer at.number c.args.kits.now.items at.passes.items at.kits.items c.args.parts.items at.invariant.count all at.invariant.taken c.requires.one c.requires.kits.count c.requires.sealed
 
 pub returns-clause-record : goal.returns-clause-record
@@ -53,7 +53,7 @@ returns-clause-theirs c =
     let s = c.args.script.now in
     let over = c.loop-number-test.false in
     let most = at.auto.number-end in
-    let all : at.number ≡ s.threads + 3 = omega (arith, over, most) in
+    let all : at.number ≡ s.threads + 2 = omega (arith, over, most) in
     IfOk-weaker c.into_whole.result (λ r. IsWhole c.args.choreographer at.passes.items r.entries) (λ r. AreOfNextPasses s c.args.looper c.args.kits.now.items r.entries)
     (λ r w. record {
       parted = taken_theirs s c.args.looper c.args.choreographer at.number c.args.kits.now.items at.passes.items at.kits.items r.entries at.invariant.count all at.invariant.taken c.requires.one w.heard;
@@ -67,5 +67,5 @@ returns-clause-kits c =
     let s = c.args.script.now in
     let over = c.loop-number-test.false in
     let most = at.auto.number-end in
-    let all : at.number ≡ s.threads + 3 = omega (arith, over, most) in
+    let all : at.number ≡ s.threads + 2 = omega (arith, over, most) in
     taken_kits s c.args.looper c.args.choreographer at.number c.args.kits.now.items at.passes.items at.kits.items c.into_whole.result all at.invariant.taken

@@ -28,9 +28,9 @@ returns-clause-frames c =
     record {
       records_are = frames.records_are;
       theirs = frames_kept s c.args.kits.items c.queue_records.new.kits.items fs senders few kept frames.theirs;
-      own = λ q i d p r small below.
+      own = λ q d p r below.
           let within : s.threads + q < length c.args.kits.items = omega (arith, below, few, senders) in
-          subst (λ (l : List Pass). IsPrefix (get_or l i p).view.seen (get_or fs q r).entries) (kept.each (s.threads + q) d within).frames (frames.own q i d p r small below);
+          subst (λ (l : List Pass). IsPrefix (get_or l 0 p).view.seen (get_or fs q r).entries) (kept.each (s.threads + q) d within).frames (frames.own q d p r below);
     }
 
 pub queue_records-requires : goal.queue_records-requires

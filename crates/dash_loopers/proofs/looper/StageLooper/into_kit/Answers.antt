@@ -5,8 +5,7 @@ use Rattle.choreographer.specs.Known.{Pass}
 use Rattle.dash_loopers.specs.declared.player.Parts.{Parts}
 use Rattle.dash_loopers.specs.Loopers.{others_in}
 use Rattle.dash_loopers.proofs.LooperKits.{looper_of, parts_of, others_many, kit_again, seen_over, disposes_again, told_again}
-use Rattle.dash_loopers.proofs.LooperPlayed.{left_by}
-use Rattle.dash_loopers.proofs.LooperLeft.{left_by_clock}
+use Rattle.dash_loopers.proofs.LooperPlayed.{has_left, has_left_by}
 use Rattle.dash_loopers.proofs.looper.StageLooper.into_kit.Goals as goal
 use Rattle.loop_model.specs.declared.journal.Journal.{Journal}
 
@@ -23,7 +22,7 @@ returns-clause-gives c =
     let parts = c.in-Some.parts in
     let l = c.args.self in
     let posters = c.in_ok-insert.ensures.items ∙ ap (λ (p : Sender). insert parts.others.items l.number p) c.into_parts-poster.ensures.0 in
-    let passes = c.in_ok-push-2.ensures.items ∙ ap (λ (ps : List Pass). ps ++ parts.root.pass ∷ []) (c.in_ok-push.ensures.items ∙ ap (λ (ps : List Pass). ps ++ parts.frames ∷ []) c.new-passes.ensures.items) in
+    let passes = c.in_ok-push.ensures.items ∙ ap (λ (ps : List Pass). ps ++ parts.frames ∷ []) c.new-passes.ensures.items in
     record {
       number = ap (λ (j : Journal). j.looper) c.into_parts-poster.ensures.2 ∙ c.requires.looper.journal;
       journal = c.into_parts-poster.ensures.2;
@@ -39,12 +38,12 @@ returns-clause-told c =
     let hall = c.args.hall.now in
     let l = c.args.self in
     let posters = c.in_ok-insert.ensures.items ∙ ap (λ (p : Sender). insert parts.others.items l.number p) c.into_parts-poster.ensures.0 in
-    let passes = c.in_ok-push-2.ensures.items ∙ ap (λ (ps : List Pass). ps ++ parts.root.pass ∷ []) (c.in_ok-push.ensures.items ∙ ap (λ (ps : List Pass). ps ++ parts.frames ∷ []) c.new-passes.ensures.items) in
+    let passes = c.in_ok-push.ensures.items ∙ ap (λ (ps : List Pass). ps ++ parts.frames ∷ []) c.new-passes.ensures.items in
     let journal = c.into_parts-poster.ensures.2 in
     record {
       told = told_again s hall l parts _ _ c.requires.hall c.requires.looper c.in-Some.is posters journal;
       disposes = disposes_again s hall l parts _ c.requires.hall c.requires.looper c.in-Some.is posters;
       over = seen_over s hall l parts _ c.requires.hall c.requires.looper c.in-Some.is posters;
-      left = left_by s hall l parts _ _ c.requires.hall c.requires.looper c.in-Some.is posters passes journal;
-      left_by = left_by_clock s hall l parts _ _ c.requires.hall c.requires.looper c.in-Some.is posters passes journal;
+      left = has_left s hall l parts _ _ c.requires.hall c.requires.looper c.in-Some.is posters passes journal;
+      left_by = has_left_by s hall l parts _ _ c.requires.hall c.requires.looper c.in-Some.is posters passes journal;
     }

@@ -1,6 +1,4 @@
-use Rattle.std.proofs.Common.{◌≡◌, ◌<◌, ℕ, ◌+◌, get_or, replicate, List, [], refl, sym, ap, ◌∙◌, subst, arith}
-use Rattle.std.specs.List.{remove}
-use Rattle.std.proofs.lemmas.List.Edits.{get_or-remove_above}
+use Rattle.std.proofs.Common.{◌≡◌, ℕ, get_or, replicate, [], refl, sym, ap, ◌∙◌, subst, arith}
 use Rattle.choreographer.specs.Known.{Pass}
 use Rattle.choreographer.specs.Turn.{made_entries}
 use Rattle.looper_run.specs.Holding.{Sender, Holding}
@@ -9,7 +7,7 @@ use Rattle.std.proofs.lemmas.Option.{same_Some}
 use Rattle.dash_hall.specs.Hearing.{HasHeardAll}
 use Rattle.dash_loopers.specs.Loopers.{LooperRest}
 use Rattle.dash_loopers.proofs.LooperPasses.{unheard_all}
-use Rattle.dash_loopers.proofs.LooperKits.{its_frames, two_frames, first_is, kit_many, kit_two, posters_begin, looper_begins}
+use Rattle.dash_loopers.proofs.LooperKits.{its_frames, one_frame, only_is, kit_many, kit_one, posters_begin, looper_begins}
 use Rattle.dash_loopers.proofs.LooperPlaces.{none_latest}
 use Rattle.dash_loopers.proofs.FirstPulses.{tells_none}
 use Rattle.dash_loopers.proofs.LooperPlayed.{unseen_without, stands_first}
@@ -23,13 +21,7 @@ remove-poster-requires c =
 pub remove-own_frames-requires : goal.remove-own_frames-requires
 remove-own_frames-requires c =
     let of = c.requires.looper in
-    omega (arith, kit_two c.args.script.now c.args.hall.now c.args.number of c.args.kit c.requires.kit, c.args.kit.frames.ok.0)
-
-pub remove-client-requires : goal.remove-client-requires
-remove-client-requires c =
-    let of = c.requires.looper in
-    let len = c.remove-own_frames.ensures.len in
-    omega (arith, len, kit_two c.args.script.now c.args.hall.now c.args.number of c.args.kit c.requires.kit, c.args.kit.frames.ok.0)
+    omega (arith, kit_one c.args.script.now c.args.hall.now c.args.number of c.args.kit c.requires.kit, c.args.kit.frames.ok.0)
 
 pub returns : goal.returns
 returns c =
@@ -38,30 +30,25 @@ returns c =
     let of = c.requires.looper in
     let kit = c.args.kit in
     let many = kit_many s hall c.args.number of kit c.requires.kit in
-    let two = kit_two s hall c.args.number of kit c.requires.kit in
+    let one = kit_one s hall c.args.number of kit c.requires.kit in
     let ps = kit.frames.items in
     let unused = c.requires.unused in
     let held = c.make.ensures.held in
-    let behind : c.remove-client.result ≡ get_or (remove ps 0) 0 c.remove-client.result = subst (λ (l : List Pass). c.remove-client.result ≡ get_or l 0 c.remove-client.result) c.remove-own_frames.ensures.items c.remove-client.ensures.value in
-    let second : c.remove-client.result ≡ get_or ps 1 c.remove-client.result = behind ∙ get_or-remove_above ps 0 c.remove-client.result 0 (omega arith) (omega (arith, two)) in
-    let unasked = subst (λ (p : Pass). p.view.own ≡ []) (sym second) (unused.own 1 c.remove-client.result (omega (arith, two))) in
-    let untaken = subst (λ (p : Pass). p.view.turns ≡ 0) (sym second) (unused.turns 1 c.remove-client.result (omega (arith, two))) in
-    let unrun = subst (λ (p : Pass). p.view.own ≡ []) (sym c.remove-own_frames.ensures.value) (unused.own 0 c.remove-own_frames.result (omega (arith, two))) in
-    let unstamped = subst (λ (p : Pass). p.view.stamp ≡ 0) (sym c.remove-own_frames.ensures.value) (unused.stamp 0 c.remove-own_frames.result (omega (arith, two))) in
-    let unknown = subst (λ (p : Pass). p.view.awaits ≡ 0) (sym c.remove-own_frames.ensures.value) (unused.awaits 0 c.remove-own_frames.result (omega (arith, two))) in
+    let unasked = subst (λ (p : Pass). p.view.own ≡ []) (sym c.remove-own_frames.ensures.value) (unused.own 0 c.remove-own_frames.result (omega (arith, one))) in
+    let unstamped = subst (λ (p : Pass). p.view.stamp ≡ 0) (sym c.remove-own_frames.ensures.value) (unused.stamp 0 c.remove-own_frames.result (omega (arith, one))) in
+    let unknown = subst (λ (p : Pass). p.view.awaits ≡ 0) (sym c.remove-own_frames.ensures.value) (unused.awaits 0 c.remove-own_frames.result (omega (arith, one))) in
     let frames = its_frames s hall c.args.number of in
     let unpulsed = none_latest s hall c.args.number of frames.0 frames.1 c.remove-own_frames.result
-    (first_is frame_badge_of ps c.remove-own_frames.result (frame_badge_for s.threads frames.0) (frame_badge_for (s.threads + 1) frames.0)
-    (c.requires.kit.frames ∙ two_frames s hall c.args.number of frames.0 frames.1) c.remove-own_frames.ensures.value) unstamped unknown in
+    (only_is frame_badge_of ps c.remove-own_frames.result (frame_badge_for s.threads frames.0)
+    (c.requires.kit.frames ∙ one_frame s hall c.args.number of frames.0 frames.1) c.remove-own_frames.ensures.value) unstamped unknown in
     let none = subst (λ (p : Sender). p.view.seen ≡ []) (sym c.remove-poster.ensures.value) (unused.posters c.args.number c.remove-poster.result many) in
-    let unheard_at : (i : ℕ) (p : Pass) → i < 2 → p ≡ get_or ps i p → HasHeardAll [] p = λ i p lt e.
-    subst (HasHeardAll []) (sym e) (unheard_all (get_or ps i p) (unused.heard i p (omega (arith, two, lt))) (unused.frames i p (omega (arith, two, lt))) (unused.own i p (omega (arith, two, lt)))) in
-    let first = unheard_at 0 c.remove-own_frames.result (omega arith) c.remove-own_frames.ensures.value in
+    let p = c.remove-own_frames.result in
+    let unheard = subst (HasHeardAll []) (sym c.remove-own_frames.ensures.value)
+    (unheard_all (get_or ps 0 p) (unused.heard 0 p (omega (arith, one))) (unused.frames 0 p (omega (arith, one))) (unused.own 0 p (omega (arith, one)))) in
     record {
       begins = record {
         looper = looper_begins s hall c.args.number kit _ c.make.result c.remove-poster.result _ of c.requires.kit unused
             c.remove-poster.ensures.value c.remove-poster.ensures.items c.remove-own_frames.ensures.value
-            (subst (λ (p : Pass). p ≡ get_or (remove ps 0) 0 p) (sym c.in_ok-new.ensures.pass) behind)
             held c.make.ensures.flags.1 refl refl;
         number_is = refl;
         posters = posters_begin kit c.args.number c.remove-poster.result c.make.result.held.poster c.remove-poster.new.self.items many
@@ -72,13 +59,10 @@ returns c =
               c.in_ok-new.ensures.still c.in_ok-new.ensures.gauges c.in_ok-new.ensures.rest.0 c.in_ok-new.ensures.rest.1 c.in_ok-new.ensures.rest.2
               (subst AreUnseen (sym c.remove-poster.ensures.items) (unseen_without kit.posters.items c.args.number many unused.posters))
               (c.in_ok-vec.ensures.items_if_clones_equal (λ y same. same) ∙ ap (λ (n : ℕ). replicate n 0) c.len.ensures)
-              (ap (λ (p : Pass). p.view.own) c.in_ok-new.ensures.pass ∙ unasked) (ap (λ (p : Pass). p.view.turns) c.in_ok-new.ensures.pass ∙ untaken) unrun unpulsed refl (sym first.0.seen ∙ ap made_entries first.1),
+              unasked unpulsed refl (sym unheard.0.seen ∙ ap made_entries unheard.1),
           tells_none 0 _ (ap (λ (h : Holding). h.journal.acts) held),
         );
         nothing = record { acts = ap (λ (h : Holding). h.journal.acts) held; idle_owed = c.make.ensures.flags.0; pass = ap (λ (h : Holding). h.pass) held };
-        unheard = λ r is. subst (λ (z : LooperRest). HasHeardAll [] z.frames × HasHeardAll [] z.root.pass) (same_Some _ _ is) (
-          first,
-          subst (HasHeardAll []) (sym c.in_ok-new.ensures.pass) (unheard_at 1 c.remove-client.result (omega arith) second),
-        );
+        unheard = λ r is. subst (λ (z : LooperRest). HasHeardAll [] z.frames) (same_Some _ _ is) unheard;
       };
     }

@@ -64,4 +64,4 @@ returns-clause-leaves g c =
     let own = c.args.own.now in
     let after : Parts = record c.args.parts.now { frames = c.deliver-pulse.new.pass; awaits = c.args.parts.now.awaits || c.is_some.result } in
     (keeps_hosted c.args.self.now.looper c.args.now _ own.poster.now own.pass.now _ _ c.host-host.result c.deliver-pulse.new.self c.host-host.ensures.host c.deliver-pulse.ensures.stays.ready c.deliver-pulse.ensures.stays.origin
-    c.args.parts.now after own _ refl refl refl refl (record { poster = refl; pass = refl; journal = refl }) (tells_none own.journal.now) (record { others = refl; frames = c.deliver-pulse.ensures.pass; client = refl; awaits = pulse_may_await c.args.parts.now after (stamp_in c.deliver-pulse.result) c.deliver-pulse.ensures.pass c.deliver-pulse.ensures.latest.awaits (pulse_waits c.deliver-pulse.result c.args.parts.now.awaits c.is_some.result c.is_some.ensures) }) refl).leaves
+    c.args.parts.now after own _ refl refl refl refl (record { poster = refl; pass = refl; journal = refl }) (tells_none own.journal.now) (record { others = refl; frames = c.deliver-pulse.ensures.pass; awaits = pulse_may_await c.args.parts.now after (stamp_in c.deliver-pulse.result) c.deliver-pulse.ensures.pass c.deliver-pulse.ensures.latest.awaits (pulse_waits c.deliver-pulse.result c.args.parts.now.awaits c.is_some.result c.is_some.ensures) }) refl).leaves

@@ -24,11 +24,12 @@ on_due-requires-clause-pass g c =
     (frame_of_badge place.script.now.threads c.args.parts.now.frames frames (c.requires.serves.are_parts.frames frames c.choreographer.ensures), omega (arith, phases, c.phase_count-phases.ensures, c.if-phase-phases.false))
 
 pub returns-clause-plays : goal.returns-clause-plays
-returns-clause-plays g c = λ text a is.
+returns-clause-plays g c = λ lockstep text a is.
     (let h = c.host-host.result in
     let k = c.on_due.new.self in
     let calls = untold_hosted (origin_now h) (origin_now k) c.args.own.now.poster.now h.poster.now k.poster.now k.pass.now c.on_due.ensures.stays.origin c.on_due.ensures.stays.ready c.host-host.ensures.host.began.0 c.host-host.ensures.host.by_poster.1 c.on_due.ensures.sends in
-    played_with c.args.self.now.script.now c.args.self.now.looper (calls_of c.args.own.now.poster.now) (calls_of k.poster.now) c.args.parts.now _ a calls refl refl refl is)
+    played_with c.args.self.now.script.now c.args.self.now.looper (calls_of c.args.own.now.poster.now) (calls_of k.poster.now) c.args.parts.now _ a calls
+    (ap asks_in (due_records c.args.parts.now.frames c.on_due.new.pass (λ n. n == nanos_of h.uptime.now.now) c.args.phase c.on_due.result c.on_due.ensures.due)) refl refl refl is)
 
 pub returns-clause-due : goal.returns-clause-due
 returns-clause-due g c = λ within. (
@@ -57,7 +58,7 @@ returns-clause-leaves g c =
     let own = c.args.own.now in
     let after : Parts = record c.args.parts.now { frames = c.on_due.new.pass } in
     keeps_hosted c.args.self.now.looper c.args.now _ own.poster.now own.pass.now _ _ c.host-host.result c.on_due.new.self c.host-host.ensures.host c.on_due.ensures.stays.ready c.on_due.ensures.stays.origin
-    c.args.parts.now after own _ refl refl refl refl (record { poster = refl; pass = refl; journal = refl }) (tells_none own.journal.now) (record { others = refl; frames = c.on_due.ensures.pass; client = refl; awaits = due_may_await c.args.parts.now after (λ n. n == nanos_of c.host-host.result.uptime.now.now) c.args.phase c.on_due.result c.on_due.ensures.due refl }) refl
+    c.args.parts.now after own _ refl refl refl refl (record { poster = refl; pass = refl; journal = refl }) (tells_none own.journal.now) (record { others = refl; frames = c.on_due.ensures.pass; awaits = due_may_await c.args.parts.now after (λ n. n == nanos_of c.host-host.result.uptime.now.now) c.args.phase c.on_due.result c.on_due.ensures.due refl }) refl
 
 pub returns-clause-tells : goal.returns-clause-tells
 returns-clause-tells g c =

@@ -4,7 +4,7 @@ use Rattle.dash_loopers.proofs.LooperLeaves.{none_called, calls_then}
 use Rattle.dash_loopers.proofs.player.Place.react.Goals as goal
 
 pub loop-place-init : goal.loop-place-init
-loop-place-init g c = record { calls = none_called c.args.parts.now c.args.own.now; plays = λ text a is. is }
+loop-place-init g c = record { calls = none_called c.args.parts.now c.args.own.now; plays = λ lockstep text a is. is }
 
 pub loop-place-preserved : goal.loop-place-preserved
 loop-place-preserved g c =

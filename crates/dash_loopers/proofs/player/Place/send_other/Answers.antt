@@ -46,7 +46,7 @@ returns-clause-calls g c =
     let near : c.args.looper < length hall.queues.items = omega (arith, hall.queues.ok.0) in
     let at = other_read place.script.now hall place.looper c.args.looper c.place_without.result parts c.requires.serves.looper c.requires.serves.are_parts near c.place_without.ensures parts.others.len c.index_mut-poster.result.now (omega (arith, parts.others.ok.0)) c.index_mut-poster.ensures.value in
     record {
-      leaves = record { parts = parts_with parts c.place_without.result c.index_mut-poster.result.now c.send_by.new.poster _ at c.send_by.ensures.poster refl refl refl refl; own = c.send_by.ensures.leaves };
+      leaves = record { parts = parts_with parts c.place_without.result c.index_mut-poster.result.now c.send_by.new.poster _ at c.send_by.ensures.poster refl refl refl; own = c.send_by.ensures.leaves };
       untimed = record {
         own = untimed_self c.args.own.now.poster.now c.send_by.new.own.poster.now c.send_by.ensures.seen;
         others = untimed_put parts.others.items c.place_without.result c.index_mut-poster.result.now c.send_by.new.poster at (ap (λ (b : Badge). b.sender) c.send_by.ensures.poster) c.send_by.ensures.untimed;
@@ -58,7 +58,7 @@ returns-clause-calls g c =
     }
 
 pub returns-then-place-len-clause-plays : goal.returns-then-place-len-clause-plays
-returns-then-place-len-clause-plays g c = λ timing text.
+returns-then-place-len-clause-plays g c = λ timing lockstep text.
     let place = c.args.self.now in
     let hall = place.hall.now in
     absurd (omega (arith, c.requires.within text, queue_count place.script.now hall place.looper c.requires.serves.looper, hall.queues.ok.0, c.if-place-len.true, c.len.ensures))
@@ -70,6 +70,6 @@ returns-clause-plays g c = λ timing.
     let parts = c.args.parts.now in
     let near : c.args.looper < length hall.queues.items = omega (arith, hall.queues.ok.0) in
     let at = other_read place.script.now hall place.looper c.args.looper c.place_without.result parts c.requires.serves.looper c.requires.serves.are_parts near c.place_without.ensures parts.others.len c.index_mut-poster.result.now (omega (arith, parts.others.ok.0)) c.index_mut-poster.ensures.value in
-    on_ok c.send_by.result _ _ c.send_by.ensures.made (λ m text a is.
-    called_there place.script.now place.looper c.args.looper c.place_without.result c.args.post.now timing c.index_mut-poster.result.now c.send_by.new.poster _ c.args.parts.now _ c.place_without.ensures at
-    m refl refl refl a (subst (λ (p : Sender). IsPlayed place.script.now place.looper (calls_of p) c.args.parts.now a) (sym c.send_by.ensures.seen) is))
+    on_ok c.send_by.result _ _ c.send_by.ensures.made (λ m lockstep text a is.
+    called_there lockstep place.script.now place.looper c.args.looper c.place_without.result c.args.post.now timing c.index_mut-poster.result.now c.send_by.new.poster _ c.args.parts.now _ c.place_without.ensures at
+    m refl refl refl refl a (subst (λ (p : Sender). IsPlayed lockstep place.script.now place.looper (calls_of p) c.args.parts.now a) (sym c.send_by.ensures.seen) is))

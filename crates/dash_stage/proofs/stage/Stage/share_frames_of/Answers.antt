@@ -8,7 +8,7 @@ use Rattle.dash_loopers.specs.declared.looper.StageLooper.{StageLooper}
 use Rattle.dash_loopers.specs.Loopers.{IsLooper}
 use Rattle.dash_stage.specs.Sharing.{OfPasses}
 use Rattle.dash_stage.proofs.Controller.Controlling.{turns_on, in_choreographers, in_passes, own_pass, pass_count}
-use Rattle.dash_stage.proofs.Sharing.{passes_ready, looper_passes, shares_frames}
+use Rattle.dash_stage.proofs.Sharing.{passes_ready, looper_pass, shares_frames}
 use Rattle.dash_stage.proofs.stage.Stage.share_frames_of.Goals as goal
 
 pub index-requires : goal.index-requires
@@ -34,7 +34,7 @@ share_passes-requires c =
     record {
       threads = subst (OfPasses (ArePassesReady place c.index.result.now)) (sym c.as_mut_slice.ensures.value) (passes_ready s st is place near c.index.result.now c.index.ensures);
       parts = some_so _ l.parts one.0.parts;
-      looper = looper_passes s st is place near c.index.result.now c.index.ensures l one.0 one.1;
+      looper = looper_pass s st is place near c.index.result.now c.index.ensures l one.0 one.1;
       pass = own_pass (turns_on is.hall is.controller near) c.index_mut-2.ensures.value c.index.ensures;
     }
 

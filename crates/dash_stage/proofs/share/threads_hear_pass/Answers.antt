@@ -4,7 +4,7 @@ use Rattle.dash_hall.specs.Hearing.{ArePassesReady, ArePassesKnown}
 use Rattle.dash_hall.proofs.Sharing.{first_all}
 use Rattle.dash_threads.specs.Threads.{HearsPass}
 use Rattle.dash_stage.proofs.Sharing.{next_of, pass_heard_next, first_none}
-use Rattle.dash_stage.proofs.share.threads_hear_passes.Goals as goal
+use Rattle.dash_stage.proofs.share.threads_hear_pass.Goals as goal
 
 pub hear_pass-requires-clause-ready : goal.hear_pass-requires-clause-ready
 hear_pass-requires-clause-ready c =

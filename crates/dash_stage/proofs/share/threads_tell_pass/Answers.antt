@@ -4,7 +4,7 @@ use Rattle.dash_hall.proofs.PassesHearing.{pass_heard_self}
 use Rattle.dash_hall.proofs.Sharing.{first_all, each_weaker}
 use Rattle.dash_threads.specs.Threads.{TellsPass}
 use Rattle.dash_stage.proofs.Sharing.{TellsAll, still_of, next_of, pass_told, first_none}
-use Rattle.dash_stage.proofs.share.threads_tell_passes.Goals as goal
+use Rattle.dash_stage.proofs.share.threads_tell_pass.Goals as goal
 
 pub tell_pass-requires-clause-ready : goal.tell_pass-requires-clause-ready
 tell_pass-requires-clause-ready c =

@@ -1,27 +1,19 @@
 use Rattle.std.proofs.Common.{◌≡◌, List, Some, refl, sym, ap, ◌∙◌, subst}
 use Rattle.std.specs.List.{insert}
 use Rattle.std.proofs.lemmas.Option.{same_Some}
-use Rattle.loop_model.specs.Lists.{longer}
 use Rattle.looper_run.specs.Holding.{Sender}
-use Rattle.choreographer.specs.Known.{Pass, IsPassOf}
 use Rattle.dash_hall.specs.Hearing.{HasHeardAll}
 use Rattle.dash_hall.proofs.Hearing.{longer_whole}
 use Rattle.dash_hall.proofs.PassesHearing.{pass_heard}
 use Rattle.dash_loopers.specs.Loopers.{LooperRest, MayHaveHeard, others_in, rest_in}
 use Rattle.dash_loopers.proofs.LooperPasses.{may_one}
-use Rattle.dash_loopers.proofs.looper.StageLooper.hear_passes.Goals as goal
+use Rattle.dash_loopers.proofs.looper.StageLooper.hear_pass.Goals as goal
 
 pub hear-requires : goal.hear-requires
 hear-requires c =
     let parts = c.in-Some.parts in
     let is : c.args.self.now.parts ≡ Some parts = cc in
-    ((c.requires.passes _ (ap rest_in is)).0, c.requires.other)
-
-pub hear-requires-2 : goal.hear-requires-2
-hear-requires-2 c =
-    let parts = c.in-Some.parts in
-    let is : c.args.self.now.parts ≡ Some parts = cc in
-    ((c.requires.passes _ (ap rest_in is)).1, subst (λ (p : Pass). IsPassOf p c.args.choreographer.now) (sym c.hear.ensures.other) c.requires.other)
+    (c.requires.passes _ (ap rest_in is), c.requires.other)
 
 pub returns-clause-kept : goal.returns-clause-kept
 returns-clause-kept c =
@@ -30,14 +22,11 @@ returns-clause-kept c =
     let is : l.parts ≡ Some parts = cc in
     let whole = c.args.other.now.view.heard in
     let r : LooperRest = record { frames = parts.frames; root = parts.root; fired = parts.fired.items; passed = parts.passed; awaits = parts.awaits } in
-    let r' : LooperRest = record { frames = c.hear.new.self; root = record parts.root { pass = c.hear-2.new.self }; fired = parts.fired.items; passed = parts.passed; awaits = parts.awaits } in
+    let r' : LooperRest = record { frames = c.hear.new.self; root = parts.root; fired = parts.fired.items; passed = parts.passed; awaits = parts.awaits } in
     let known = c.requires.known r (ap rest_in is) in
-    let same = c.hear.ensures.other in
-    let first = c.hear.ensures.heard ∙ longer_whole parts.frames.view.heard whole known.0 in
-    let second = c.hear-2.ensures.heard ∙ (ap (λ (p : Pass). longer parts.root.pass.view.heard p.view.heard) same ∙ longer_whole parts.root.pass.view.heard whole known.1) in
+    let all = c.hear.ensures.heard ∙ longer_whole parts.frames.view.heard whole known in
     let heard = may_one r r' record {
       frames = pass_heard parts.frames c.hear.new.self c.hear.ensures.same c.hear.ensures.grows.0 c.hear.ensures.begins.0;
-      client = pass_heard parts.root.pass c.hear-2.new.self c.hear-2.ensures.same c.hear-2.ensures.grows.0 c.hear-2.ensures.begins.0;
       root = refl;
       fired = refl;
       passed = refl;
@@ -52,5 +41,5 @@ returns-clause-kept c =
         last = refl;
         dispatched = refl;
       },
-      λ z here. subst (λ (z : LooperRest). HasHeardAll whole z.frames × HasHeardAll whole z.root.pass) (same_Some r' z here) ((c.hear.ensures.knows.2, first), (c.hear-2.ensures.knows.2, second)),
+      λ z here. subst (λ (z : LooperRest). HasHeardAll whole z.frames) (same_Some r' z here) (c.hear.ensures.knows.2, all),
     )
